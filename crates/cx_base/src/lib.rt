@@ -1,0 +1,12 @@
+//! What every crate of Codex stands on: numbers of C, spans, lists and memory.
+#![tactic(auto)]
+
+mod list;
+mod memory;
+mod number;
+mod span;
+
+pub use list::{List, NoMemory};
+pub use memory::{Memory, Region};
+pub use number::CInt;
+pub use span::Span;
