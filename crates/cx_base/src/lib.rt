@@ -4,9 +4,11 @@
 mod list;
 mod memory;
 mod number;
+mod place;
 mod span;
 
 pub use list::{List, NoMemory};
 pub use memory::{Memory, Region};
 pub use number::CInt;
+pub use place::place_of;
 pub use span::Span;
