@@ -9,7 +9,7 @@ mod place;
 mod span;
 
 pub use list::{List, NoMemory};
-pub use memory::{Memory, Region};
+pub use memory::{AddFault, Memory, Region};
 pub use names::Names;
 pub use number::{CInt, fits, wrap};
 pub use place::place_of;

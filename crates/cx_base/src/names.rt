@@ -1,7 +1,7 @@
 ghost use Rattle.std.specs.Prelude.{◌≡◌, ◌<◌, ◌-◌, ◌^◌, [], length, IfOk, OnOk, OnErr, option_map, slice_get, position};
 ghost use Rattle.std.specs.Str.{bytes_eq};
 ghost use Rattle.std.specs.List.{position_or_len};
-ghost use Rattle.cx_base.specs.Names.{AllDifferent, numbered};
+ghost use Rattle.cx_base.specs.Names.{Numbering, numbered};
 
 use crate::list::NoMemory;
 use indexmap::IndexSet;
@@ -17,13 +17,14 @@ pub struct Names {
 }
 
 impl Model for Names {
-    ghost use Rattle.std.specs.Prelude.{List, ℕ, ◌<◌, ◌^◌, length, map};
+    ghost use Rattle.std.specs.Prelude.{List, ℕ, map};
+    ghost use Rattle.cx_base.specs.Names.{Numbering};
 
     ghost Value = { List (List ℕ) };
 
     ghost view = { λ n. map (λ v. v.items) n.texts.keys };
 
-    ghost invariant = { λ n. length n.texts.keys < 2 ^ 32 };
+    ghost invariant = { λ n. Numbering (map (λ v. v.items) n.texts.keys) };
 }
 
 impl Names {
@@ -39,7 +40,8 @@ impl Names {
 
     /// The text that has the number `n`; None exactly where no text has it.
     pub fn text(&self, n: u32) -> Option<&[u8]>
-        ensures { option_map (λ t. t.now) result ≡ slice_get self.now n }
+        ensures text { option_map (λ t. t.now) result ≡ slice_get self.now n }
+        ensures numbering { Numbering self.now }
     {
         let text = self.texts.get_index(n as usize)?;
         Some(text.as_slice())
@@ -48,7 +50,8 @@ impl Names {
     /// The number of the text; None exactly where it has none.
     #[tactic(auto, using(crate::proofs::Texts::position_map))]
     pub fn number_of(&self, text: &[u8]) -> Option<u32>
-        ensures { result ≡ position (bytes_eq text.now) self.now }
+        ensures number { result ≡ position (bytes_eq text.now) self.now }
+        ensures numbering { Numbering self.now }
     {
         let n = self.texts.get_index_of(text)?;
         Some(n as u32)
