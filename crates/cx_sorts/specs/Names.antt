@@ -1,5 +1,5 @@
 -- What a name stands for: a struct of the C file, a parameter of the function, a region type of the type file.
-use Rattle.std.specs.Prelude.{ℕ, Bool, Option, find, position}
+use Rattle.std.specs.Prelude.{ℕ, Bool, Option, position}
 use Rattle.std.specs.Str.{bytes_eq}
 use Rattle.cx_form.specs.declared.tree.Word.{Word}
 use Rattle.cx_form.specs.declared.tree.Struct.{Struct}
