@@ -1,0 +1,7 @@
+//! The rules by sorts of the straight-line form, and what they promise: a function that raises no
+//! alarm is safe over every memory whose regions hold their types.
+#![tactic(auto)]
+
+mod verdict;
+
+pub use verdict::{Access, Condition, Sort, Verdict};
