@@ -45,7 +45,7 @@ pub record State : Type 0 where
   pub memory : List Region
 
 -- an access that was made: where it stands in the text, its first address, how many bytes, and the memory that it met
-pub record Reach : Type 0 where
+pub record MemoryAccess : Type 0 where
   pub span : Span
   pub address : ℕ
   pub size : ℕ
@@ -58,7 +58,7 @@ pub data End : Type 0 where
 
 -- a run: the accesses in order, and its end
 pub record Run : Type 0 where
-  pub accesses : List Reach
+  pub accesses : List MemoryAccess
   pub end : End
 
 -- the smallest piece of the text that has both words
@@ -96,7 +96,7 @@ address_of c f values p m =
     option_and_then (λ v. option_map (λ offset. (v + offset) % 2 ^ 64) (member_offset c f p m)) (value_of f values p)
 
 -- a statement, from a state: the access that it makes and the next state, or the span of a fault
-abbrev pub step : CFile → Function → State → Statement → Result (Reach × State) Span
+abbrev pub step : CFile → Function → State → Statement → Result (MemoryAccess × State) Span
 step c f s (Load x p m) =
     ok_or (address_of c f s.values p m) (cover p m) >>= λ a.
     ok_or (load s.memory a) (cover p m) >>= λ v.
@@ -115,9 +115,9 @@ return_of f s (Some e) =
     option_map_or (λ x. option_map_or (λ v. Return (Some v) s.memory) (value_of f s.values x) (Fault x.span)) e.value (Return None s.memory)
 
 -- a run that goes on after a statement
-abbrev pub go_on : Result (Reach × State) Span → (State → Run) → Run
+abbrev pub go_on : Result (MemoryAccess × State) Span → (State → Run) → Run
 go_on (Err span) run = record { accesses = []; end = Fault span }
-go_on (Ok (reach, s)) run = record { accesses = reach ∷ (run s).accesses; end = (run s).end }
+go_on (Ok (access, s)) run = record { accesses = access ∷ (run s).accesses; end = (run s).end }
 
 -- the statements from a state on, and the return
 abbrev pub run_body : CFile → Function → List Statement → State → Run

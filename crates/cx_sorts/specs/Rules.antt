@@ -54,56 +54,51 @@ cell_at type s offset =
 abbrev pub within : ℕ → ℕ → Option ℕ
 within size offset = if nat_le (offset + 8) size then Some offset else None
 
--- where p->m lies: the place of the region type, and what the cell there holds; else the number of the condition that is
--- not shown
-pub record Spot : Type 0 where
-  pub name : ℕ
-  pub holds : Option Argument
+-- what the cell at p->m holds, if a cell begins there, where p->m lies inside a region of the type at this place
+abbrev pub held_at : CFile → TypeFile → Function → ℕ → Word → Word → Option (Option Argument)
+held_at c types f k p m =
+    option_and_then (λ (type, s). option_map (cell_at type s) (option_and_then (within (struct_size s)) (member_offset c f p m))) (region_type c types k)
 
-abbrev pub spot_in : CFile → TypeFile → Function → Word → Word → ℕ → Option Spot
-spot_in c types f p m k =
-    option_and_then (λ (type, s).
-    option_map (λ offset. record { name = k; holds = cell_at type s offset }) (option_and_then (within (struct_size s)) (member_offset c f p m)))
-    (region_type c types k)
+-- a value of this sort is known to be one of the type
+abbrev pub fits : TypeFile → Option ℕ → Argument → Bool
+fits types target argument.Any = true
+fits types target (argument.Pointer name) = option_map_or (λ k. option_eq nat_eq target (Some k)) (place_of types name) false
 
-abbrev pub spot_of : CFile → TypeFile → Function → List Sort → Word → Word → Result Spot ℕ
-spot_of c types f sorts p m = ok_or (known_target f sorts p) 2 >>= λ k. ok_or (spot_in c types f p m k) 4
+-- a store wants a cell there whose type the value is known to be of
+abbrev pub may_store : TypeFile → Option ℕ → Option Argument → Bool
+may_store types target held = option_map_or (fits types target) held false
 
--- a value of this type points to the regions of the variable's sort, or may be any
-abbrev pub fits : TypeFile → Function → List Sort → Word → Argument → Bool
-fits types f sorts x argument.Any = true
-fits types f sorts x (argument.Pointer name) =
-    option_map_or (λ k. option_eq nat_eq (known_target f sorts x) (Some k)) (place_of types name) false
-
--- a store needs a cell there that the value fits
-abbrev pub may_store : TypeFile → Function → List Sort → Word → Option Argument → Bool
-may_store types f sorts x None = false
-may_store types f sorts x (Some holds) = fits types f sorts x holds
-
--- the sorts after a load of a value of that cell
+-- the sorts after a load of what a cell holds
 abbrev pub loaded : TypeFile → Function → List Sort → Word → Option Argument → List Sort
-loaded types f sorts x holds =
-    option_map_or (λ i. slice_set sorts i (option_map_or (sort_of types) holds Any)) (variable f x) sorts
+loaded types f sorts x held = option_map_or (λ i. slice_set sorts i (option_map_or (sort_of types) held Any)) (variable f x) sorts
 
--- a statement: the region type that it accesses and the sorts after it, or the number of the condition that is not shown
+-- a statement: the access that it makes and the sorts after it, or the number of the condition that is not shown
 abbrev pub rule : CFile → TypeFile → Function → List Sort → Statement → Result (Access × List Sort) ℕ
 rule c types f sorts (Load x p m) =
-    spot_of c types f sorts p m >>= λ spot.
-    Ok (record { span = cover p m; name = spot.name }, loaded types f sorts x spot.holds)
+    ok_or (known_target f sorts p) 2 >>= λ k.
+    ok_or (held_at c types f k p m) 4 >>= λ held.
+    Ok (record { span = cover p m; name = k }, loaded types f sorts x held)
 rule c types f sorts (Store p m x) =
-    spot_of c types f sorts p m >>= λ spot.
-    (if may_store types f sorts x spot.holds then Ok (record { span = cover p m; name = spot.name }, sorts) else Err 5)
+    ok_or (known_target f sorts p) 2 >>= λ k.
+    ok_or (held_at c types f k p m) 4 >>= λ held.
+    if may_store types (known_target f sorts x) held then Ok (record { span = cover p m; name = k }, sorts) else Err 5
 
 -- the span of a statement's access
 abbrev pub access_span : Statement → Span
 access_span (Load x p m) = cover p m
 access_span (Store p m x) = cover p m
 
--- the return: a returned value fits the declared type of the result
+-- a returned value fits the declared type of the result
+abbrev pub result_alarm : TypeFile → Function → List Sort → Span → Option Word → Option Argument → Option Condition
+result_alarm types f sorts span None holds = None
+result_alarm types f sorts span (Some x) None = None
+result_alarm types f sorts span (Some x) (Some holds) =
+    if fits types (known_target f sorts x) holds then None else Some (record { number = 14; span = span })
+
+-- the return, if the body has one
 abbrev pub return_alarm : TypeFile → Function → FunctionType → List Sort → Option Condition
 return_alarm types f declared sorts =
-    option_and_then (λ (e : Ending). option_and_then (λ x. option_and_then (λ holds.
-    if fits types f sorts x holds then None else Some (record { number = 14; span = e.span })) declared.result) e.value) f.ending
+    option_and_then (λ (e : Ending). result_alarm types f sorts e.span e.value declared.result) f.ending
 
 -- a verdict that goes on after a statement
 abbrev pub go_on : Span → Result (Access × List Sort) ℕ → (List Sort → Verdict) → Verdict

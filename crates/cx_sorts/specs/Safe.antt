@@ -13,7 +13,7 @@ use Rattle.cx_form.specs.declared.tree.FunctionType.{FunctionType}
 use Rattle.cx_form.specs.declared.tree.TypeFile.{TypeFile}
 use Rattle.cx_sorts.specs.declared.verdict.Access.{Access}
 use Rattle.cx_sorts.specs.TypedMemory.{Extent, layout, Extends, Holds, Typed}
-use Rattle.cx_sorts.specs.Meaning.{Reach, End, Fault, Return, run_of}
+use Rattle.cx_sorts.specs.Meaning.{MemoryAccess, End, Fault, Return, run_of}
 
 -- the number is a value of the C type; a pointer's is its address (C11 6.2.5, System V AMD64 ABI 3.1.2)
 abbrev pub InType : ValueType → ℕ → Type 0
@@ -35,11 +35,11 @@ ResultMeets types regions (Some ctype) (Some declared) None = ⊥
 ResultMeets types regions (Some ctype) (Some declared) (Some v) = InType ctype v × Holds types regions declared v
 
 -- the access lies inside one region of the memory that it met, and the table has it with that region's name
-pub record IsListed (table : List Access) (reach : Reach) : Type 0 where
+pub record IsListed (table : List Access) (access : MemoryAccess) : Type 0 where
   pub region : Region
-  pub there : Contains reach.memory region
-  pub inside : memory.Holds region reach.address reach.size
-  pub listed : Contains table (record { span = reach.span; name = region.name })
+  pub there : Contains access.memory region
+  pub inside : memory.Holds region access.address access.size
+  pub listed : Contains table (record { span = access.span; name = region.name })
 
 -- the run has no fault; at its return the old regions keep base, name, arguments and size, all regions hold their types,
 -- and so does the returned value

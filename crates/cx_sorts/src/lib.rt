@@ -2,6 +2,11 @@
 //! alarm is safe over every memory whose regions hold their types.
 #![tactic(auto)]
 
+mod check;
+mod layout;
+mod names;
+mod rules;
 mod verdict;
 
+pub use check::check_function;
 pub use verdict::{Access, Condition, Sort, Verdict};

@@ -1,0 +1,37 @@
+ghost use Rattle.std.specs.Prelude.{◌≡◌, ◌^◌, ◌<◌, length, IfOk, Some, None};
+ghost use Rattle.cx_sorts.specs.Rules.{verdict_of};
+
+use crate::rules::{access_span, return_alarm, rule, sorts_of};
+use crate::verdict::{Condition, Verdict};
+use cx_base::{List, NoMemory};
+use cx_form::{CFile, Function, FunctionType, TypeFile};
+use std::alloc::Global;
+
+/// Applies the rules by sorts to a function of the C file and its type in the type file.
+pub fn check_function(
+    alloc: Global,
+    c: &CFile,
+    types: &TypeFile,
+    function: &Function,
+    declared: &FunctionType,
+) -> Result<Verdict, NoMemory>
+    requires { length types.now.regions < 2 ^ 32 }
+    ensures exact { IfOk result (λ v. v ≡ verdict_of c.now types.now function.now declared.now) }
+{
+    let mut sorts = sorts_of(alloc, types, declared)?;
+    let mut accesses = List::new(alloc);
+    for statement in function.body.as_slice() {
+        match rule(c, types, function, &mut sorts, statement) {
+            Ok(access) => accesses.push(access)?,
+            Err(number) => {
+                let span = access_span(statement);
+                return Ok(Verdict {
+                    accesses,
+                    alarm: Some(Condition { number, span }),
+                });
+            }
+        }
+    }
+    let alarm = return_alarm(types, function, declared, &sorts);
+    Ok(Verdict { accesses, alarm })
+}
