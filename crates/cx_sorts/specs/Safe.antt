@@ -1,5 +1,5 @@
 -- What it means that a function is safe under its declared types.
-use Rattle.std.specs.Prelude.{ℕ, ◌<◌, ◌^◌, List, All, Contains, Option, Some, None}
+use Rattle.std.specs.Prelude.{◌≡◌, ℕ, ◌<◌, ◌^◌, List, All, Contains, Option, Some, None}
 use Rattle.std.specs.List.{AllZip}
 use Rattle.cx_base.specs.declared.memory.Region.{Region}
 use Rattle.cx_base.specs.Memory as memory
@@ -11,6 +11,7 @@ use Rattle.cx_form.specs.declared.tree.CFile.{CFile}
 use Rattle.cx_form.specs.declared.tree.Function.{Function}
 use Rattle.cx_form.specs.declared.tree.FunctionType.{FunctionType}
 use Rattle.cx_form.specs.declared.tree.TypeFile.{TypeFile}
+use Rattle.cx_form.specs.Form.{IsCForm, IsTypeForm}
 use Rattle.cx_sorts.specs.declared.verdict.Access.{Access}
 use Rattle.cx_sorts.specs.TypedMemory.{Extent, layout, Extends, Holds, Typed}
 use Rattle.cx_sorts.specs.Meaning.{MemoryAccess, End, Fault, Return, run_of}
@@ -54,3 +55,10 @@ abbrev pub Safe : CFile → TypeFile → Function → FunctionType → List Acce
 Safe c types f declared table =
     (memory : List Region) (values : List ℕ) → Typed c types memory → ArgumentsMeet types (layout memory) f declared values →
     All (IsListed table) (run_of c f values memory).accesses × EndsWell c types f declared memory (run_of c f values memory).end
+
+-- the two files keep the rules of the form, and the function and its declared type are theirs
+pub record AreOfForm (c : CFile) (types : TypeFile) (f : Function) (declared : FunctionType) : Type 0 where
+  pub c_form : IsCForm c
+  pub type_form : IsTypeForm c types
+  pub of_c : c.function ≡ Some f
+  pub of_types : types.function ≡ Some declared

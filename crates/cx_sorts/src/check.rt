@@ -1,5 +1,6 @@
 ghost use Rattle.std.specs.Prelude.{◌≡◌, ◌^◌, ◌<◌, length, IfOk, Some, None};
 ghost use Rattle.cx_sorts.specs.Rules.{verdict_of};
+ghost use Rattle.cx_sorts.specs.Safe.{AreOfForm, Safe};
 
 use crate::rules::{access_span, return_alarm, rule, sorts_of};
 use crate::verdict::{Condition, Verdict};
@@ -7,7 +8,13 @@ use cx_base::{List, NoMemory};
 use cx_form::{CFile, Function, FunctionType, TypeFile};
 use std::alloc::Global;
 
-/// Applies the rules by sorts to a function of the C file and its type in the type file.
+/// Applies the rules by sorts to a function of the C file and its type in the type file. What it
+/// accepts is safe: from every memory whose regions hold their types, with arguments of their
+/// types, no access is outside its region, each is one of those listed, and at the return all
+/// regions hold their types.
+///
+/// The result for every files is that of the rules; the promise is for files of the form. It asks
+/// that region types have numbers below 2^32.
 pub fn check_function(
     alloc: Global,
     c: &CFile,
@@ -17,6 +24,7 @@ pub fn check_function(
 ) -> Result<Verdict, NoMemory>
     requires { length types.now.regions < 2 ^ 32 }
     ensures exact { IfOk result (λ v. v ≡ verdict_of c.now types.now function.now declared.now) }
+    ensures safe { IfOk result (λ v. AreOfForm c.now types.now function.now declared.now → v.alarm ≡ None → Safe c.now types.now function.now declared.now v.accesses) }
 {
     let mut sorts = sorts_of(alloc, types, declared)?;
     let mut accesses = List::new(alloc);
