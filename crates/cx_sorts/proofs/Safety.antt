@@ -1,5 +1,5 @@
 -- What the rules accept is safe.
-use Rattle.std.proofs.Common.{◌≡◌, ℕ, zero, suc, ◌<◌, ◌^◌, List, [], ◌∷◌, get_or, map, Bool, true, false, Option, Some, None, Result, Ok, Err, option_and_then, IfSome, refl, sym, ap, ap₂, ◌∙◌, subst, arith, if◌then◌else◌, append-nil}
+use Rattle.std.proofs.Common.{◌++◌, ◌≡◌, ℕ, zero, suc, ◌<◌, ◌^◌, List, [], ◌∷◌, get_or, map, Bool, true, false, Option, Some, None, Result, Ok, Err, option_and_then, IfSome, refl, sym, ap, ap₂, ◌∙◌, subst, arith, if◌then◌else◌, append-nil}
 use Rattle.std.specs.List.{All, AllZip}
 use Rattle.std.specs.Option.{option_map_or}
 use Rattle.std.proofs.lemmas.List.Elements.{All-cons, All-nil, All-head, All-tail}
@@ -43,7 +43,7 @@ fitting : {A : Type 0} (b : Bool) (x : A) → (if b then None else Some x) ≡ N
 fitting true x e = refl
 fitting false x e = cc
 
-same_extent : (memory : List Region) → Extends (layout memory) (layout memory)
+same_extent : (memory : List Region) → Extends memory memory
 same_extent memory = ([], sym (append-nil (layout memory)))
 
 module _ (c : CFile) (types : TypeFile) (f : Function) (declared : FunctionType) where
@@ -82,7 +82,7 @@ module _ (c : CFile) (types : TypeFile) (f : Function) (declared : FunctionType)
 ends_before : (c : CFile) (types : TypeFile) (f : Function) (declared : FunctionType) (before after : List Region) (end : End) → layout after ≡ layout before → EndsWell c types f declared after end → EndsWell c types f declared before end
 ends_before c types f declared before after (Fault span) same h = absurd h
 ends_before c types f declared before after (Return v memory) same (extends, typed, meets) =
-    (subst (λ (l : List Extent). Extends l (layout memory)) same extends, typed, meets)
+    ((extends.0, extends.1 ∙ ap (λ (l : List Extent). l ++ extends.0) same), typed, meets)
 
 -- a run with the accesses that the verdict lists, which ends well
 abbrev Well : CFile → TypeFile → Function → FunctionType → List Region → Verdict → Run → Type 0

@@ -1,5 +1,5 @@
 -- What the sorts of variables say of their values.
-use Rattle.std.proofs.Common.{◌≡◌, ℕ, ◌<◌, ◌^◌, List, length, Bool, true, false, Option, Some, None, option_and_then, slice_get, refl, sym, ap, ◌∙◌, subst, arith, nat_eq}
+use Rattle.std.proofs.Common.{◌≡◌, ℕ, ◌<◌, ◌^◌, List, length, Bool, true, false, Option, Some, None, option_and_then, slice_get, refl, sym, ap, ◌∙◌, subst, arith, nat_eq, nat_lt, ◌^◌, if◌then◌else◌}
 use Rattle.std.specs.List.{All, AllZip, Contains, position}
 use Rattle.std.specs.Option.{option_map_or, option_eq}
 use Rattle.std.proofs.lemmas.Bool.Decides.{nat_tests}
@@ -16,7 +16,7 @@ use Rattle.cx_sorts.specs.declared.verdict.Sort.TheVariants.{Any, Pointer}
 use Rattle.cx_sorts.specs.Names.{same_name, variable, place_of}
 use Rattle.cx_sorts.specs.TypedMemory.{Extent, layout, IsBase, Holds, Typed}
 use Rattle.cx_sorts.specs.Meaning.{State, value_of}
-use Rattle.cx_sorts.specs.Rules.{sort_of, target_of, known_target, fits}
+use Rattle.cx_sorts.specs.Rules.{region_of, sort_of, target_of, known_target, fits}
 use Rattle.cx_sorts.proofs.Lists.{and_then_some, at_place, all_zip_at}
 
 -- the number is the base of a region whose type stands at place k
@@ -30,30 +30,38 @@ abbrev pub SortHolds : List Extent → Sort → ℕ → Type 0
 SortHolds regions Any v = Unit {0}
 SortHolds regions (Pointer k) v = Points regions k v
 
+limited : (place : Option ℕ) (k : ℕ) → option_and_then (λ n. if nat_lt n (2 ^ 32) then Some n else None) place ≡ Some k → place ≡ Some k
+limited None k e = cc
+limited (Some n) k e = ap Some (grind (arith, nat_tests))
+
+sort_at : (types : TypeFile) (regions : List Extent) (name : Word) (v : ℕ) (place : Option ℕ) → region_of types name ≡ place → IsBase types regions name v → SortHolds regions (option_map_or Pointer place Any) v
+sort_at types regions name v None is h = tt
+sort_at types regions name v (Some k) is h =
+    let named : place_of types name ≡ Some k = limited (place_of types name) k is in
+    record { region = h.region; there = h.there; base = h.base; name = cc (named, h.named) }
+
 pub sort_holds : (types : TypeFile) (regions : List Extent) (a : Argument) (v : ℕ) → Holds types regions a v → SortHolds regions (sort_of types a) v
 sort_holds types regions argument.Any v h = tt
-sort_holds types regions (argument.Pointer name) v h =
-    subst (λ (o : Option ℕ). SortHolds regions (option_map_or Pointer o Any) v) (sym h.named)
-    (record { region = h.region; there = h.there; base = h.base; name = refl })
+sort_holds types regions (argument.Pointer name) v h = sort_at types regions name v (region_of types name) refl h
 
-pub same_target : (target : Option ℕ) (k : ℕ) → option_eq nat_eq target (Some k) ≡ true → target ≡ Some k
+pub same_target : (known : Option ℕ) (k : ℕ) → option_eq nat_eq known (Some k) ≡ true → known ≡ Some k
 same_target None k e = cc
 same_target (Some t) k e = ap Some (grind (arith, nat_tests))
 
 fits_at :
-    (types : TypeFile) (regions : List Extent) (target : Option ℕ) (name : Word) (v : ℕ) (place : Option ℕ) → place_of types name ≡ place
-    → ((k : ℕ) → target ≡ Some k → Points regions k v) → option_map_or (λ k. option_eq nat_eq target (Some k)) place false ≡ true → IsBase types regions name v
-fits_at types regions target name v None is points e = cc
-fits_at types regions target name v (Some k) is points e =
-    let p : Points regions k v = points k (same_target target k e) in
-    record { region = p.region; there = p.there; base = p.base; named = is ∙ ap Some (sym p.name) }
+    (types : TypeFile) (regions : List Extent) (known : Option ℕ) (name : Word) (v : ℕ) (place : Option ℕ) → region_of types name ≡ place
+    → ((k : ℕ) → known ≡ Some k → Points regions k v) → option_map_or (λ k. option_eq nat_eq known (Some k)) place false ≡ true → IsBase types regions name v
+fits_at types regions known name v None is points e = cc
+fits_at types regions known name v (Some k) is points e =
+    let p : Points regions k v = points k (same_target known k e) in
+    record { region = p.region; there = p.there; base = p.base; named = limited (place_of types name) k is ∙ ap Some (sym p.name) }
 
 -- a value that fits a type holds it
 pub fits_holds :
-    (types : TypeFile) (regions : List Extent) (target : Option ℕ) (a : Argument) (v : ℕ) → ((k : ℕ) → target ≡ Some k → Points regions k v)
-    → fits types target a ≡ true → Holds types regions a v
-fits_holds types regions target argument.Any v points e = tt
-fits_holds types regions target (argument.Pointer name) v points e = fits_at types regions target name v (place_of types name) refl points e
+    (types : TypeFile) (regions : List Extent) (known : Option ℕ) (a : Argument) (v : ℕ) → ((k : ℕ) → known ≡ Some k → Points regions k v)
+    → fits types known a ≡ true → Holds types regions a v
+fits_holds types regions known argument.Any v points e = tt
+fits_holds types regions known (argument.Pointer name) v points e = fits_at types regions known name v (region_of types name) refl points e
 
 place_within : {A : Type 0} (p : A → Bool) (xs : List A) (i : ℕ) → position p xs ≡ Some i → i < length xs
 place_within p xs i e = grind (arith, nat_tests)

@@ -1,6 +1,8 @@
--- What a function of the form does, over any memory: C11 6.5.2.3 (members), 6.5.6 (address of a member), 6.5.16
--- (assignment), 6.8.6.4 (return), with numbers of 8 bytes, the least significant byte first (System V AMD64 ABI, 3.1).
--- In an assignment the right side comes first, then the address of the left side, then the write.
+-- What a function of the form does, over any memory: C11 6.5.2.3 (members), 6.5.16 (assignment), 6.8.6.4 (return), with
+-- numbers of 8 bytes, the least significant byte first (System V AMD64 ABI, 3.1.1). Its variables are its parameters.
+-- Four choices are not C's. Addresses are numbers, and `p->m` is at p and the offset of m, modulo 2 ^ 64. An access of bytes
+-- that lie inside no region is a fault. So is the use of a name that is no parameter, which the form rules out. In an
+-- assignment the right side comes first, then the address of the left side, then the write (6.5.16 leaves this open).
 use Rattle.std.specs.Prelude.{ℕ, ◌+◌, ◌-◌, ◌%◌, ◌^◌, min, max, List, [], ◌∷◌, ◌++◌, length, take, drop, Bool, ◌&&◌, nat_le, if◌then◌else◌, Option, Some, None, option_map, option_and_then, ok_or, slice_get, slice_set, Result, Ok, Err}
 use Rattle.std.specs.Option.{option_map_or}
 use Rattle.std.proofs.Math.Nat.{le_trans, min-le_left, le-max_left}
@@ -24,7 +26,7 @@ use Rattle.cx_sorts.specs.TypedMemory.{number_at}
 abbrev pub inside : ℕ → Region → Bool
 inside a r = nat_le r.base a && nat_le (a + 8) (r.base + length r.bytes)
 
--- the number at the address a, in the region that its 8 bytes lie inside
+-- the number at the address a, from the region that its 8 bytes lie inside
 abbrev pub load : List Region → ℕ → Option ℕ
 load [] a = None
 load (r ∷ rs) a = if inside a r then Some (number_at r.bytes (a - r.base)) else load rs a
@@ -33,7 +35,7 @@ load (r ∷ rs) a = if inside a r then Some (number_at r.bytes (a - r.base)) els
 unfoldable pub with_number : List ℕ → ℕ → ℕ → List ℕ
 with_number bytes offset v = take offset bytes ++ bytes_of 8 v ++ drop (offset + 8) bytes
 
--- the memory with the number at the address a, in the region that its 8 bytes lie inside
+-- the memory with the 8 low bytes of a number at the address a, in the region that they lie inside
 abbrev pub store : List Region → ℕ → ℕ → Option (List Region)
 store [] a v = None
 store (r ∷ rs) a v =
@@ -44,7 +46,7 @@ pub record State : Type 0 where
   pub values : List ℕ
   pub memory : List Region
 
--- an access that was made: where it stands in the text, its first address, how many bytes, and the memory that it met
+-- an access: where it stands in the text, its first address, how many bytes it has, and the memory at that moment
 pub record MemoryAccess : Type 0 where
   pub span : Span
   pub address : ℕ
@@ -73,7 +75,7 @@ cover a b = record {
 abbrev pub value_of : Function → List ℕ → Word → Option ℕ
 value_of f values x = option_and_then (slice_get values) (variable f x)
 
--- the values after a variable is set
+-- the values after a variable is set to v
 abbrev pub with_value : Function → List ℕ → Word → ℕ → Option (List ℕ)
 with_value f values x v = option_map (λ i. slice_set values i v) (variable f x)
 
@@ -90,7 +92,7 @@ member_offset c f p m =
     (option_and_then (λ parameter. pointee parameter.ctype)
     (option_and_then (slice_get f.parameters) (variable f p))))
 
--- the address of p->m
+-- the address of p->m (C11 6.5.2.3 and 6.5.6)
 abbrev pub address_of : CFile → Function → List ℕ → Word → Word → Option ℕ
 address_of c f values p m =
     option_and_then (λ v. option_map (λ offset. (v + offset) % 2 ^ 64) (member_offset c f p m)) (value_of f values p)

@@ -35,7 +35,8 @@ ResultMeets types regions (Some ctype) None v = ⊥
 ResultMeets types regions (Some ctype) (Some declared) None = ⊥
 ResultMeets types regions (Some ctype) (Some declared) (Some v) = InType ctype v × Holds types regions declared v
 
--- the access lies inside one region of the memory that it met, and the table has it with that region's name
+-- the access lies inside a region of the memory at that moment, and the table has its span with that region's name; the
+-- regions of a valid memory have no byte in common, so there is one such region
 pub record IsListed (table : List Access) (access : MemoryAccess) : Type 0 where
   pub region : Region
   pub there : Contains access.memory region
@@ -47,7 +48,7 @@ pub record IsListed (table : List Access) (access : MemoryAccess) : Type 0 where
 abbrev pub EndsWell : CFile → TypeFile → Function → FunctionType → List Region → End → Type 0
 EndsWell c types f declared before (Fault span) = ⊥
 EndsWell c types f declared before (Return value after) =
-    Extends (layout before) (layout after) × Typed c types after × ResultMeets types (layout after) f.result declared.result value
+    Extends before after × Typed c types after × ResultMeets types (layout after) f.result declared.result value
 
 -- from every memory whose regions hold their types, with arguments of their types, the function ends well, and each of its
 -- accesses is one of the table

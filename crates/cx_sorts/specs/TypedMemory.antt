@@ -28,9 +28,9 @@ extent r = record { base = r.base; name = r.name; args = r.args; size = length r
 abbrev pub layout : List Region → List Extent
 layout memory = map extent memory
 
--- the regions of the first layout stand first in the second, with the same base, name, arguments and size
-abbrev pub Extends : List Extent → List Extent → Type 0
-Extends before after = (rest : List Extent) × (after ≡ before ++ rest)
+-- the regions of the first memory stand first in the second, with the same base, name, arguments and size
+abbrev pub Extends : List Region → List Region → Type 0
+Extends before after = (rest : List Extent) × (layout after ≡ layout before ++ rest)
 
 -- the number is the base of a region of the region type of this name
 pub record IsBase (types : TypeFile) (regions : List Extent) (name : Word) (v : ℕ) : Type 0 where
@@ -39,7 +39,7 @@ pub record IsBase (types : TypeFile) (regions : List Extent) (name : Word) (v : 
   pub base : region.base ≡ v
   pub named : place_of types name ≡ Some region.name
 
--- the number may be a value of the type: of `any` every number, of `ptr NAME` the base of a region of that name
+-- the number holds the type: every number holds `any`, and `ptr NAME` the base of a region of that name
 abbrev pub Holds : TypeFile → List Extent → Argument → ℕ → Type 0
 Holds types regions Any v = Unit {0}
 Holds types regions (Pointer name) v = IsBase types regions name v
@@ -48,8 +48,8 @@ Holds types regions (Pointer name) v = IsBase types regions name v
 unfoldable pub number_at : List ℕ → ℕ → ℕ
 number_at bytes offset = number_of (take 8 (drop offset bytes))
 
--- the 8 bytes of the cell's member hold its type, where the struct has that member: for `any8` all bytes do, for
--- `ptr NAME` those whose number is the base of a region of that name
+-- the 8 bytes at the offset of the cell's member hold the cell: `any8` all bytes do, `ptr NAME` those whose number is the
+-- base of a region of that name
 pub record HoldsCell (types : TypeFile) (regions : List Extent) (s : Struct) (bytes : List ℕ) (cell : Cell) : Type 0 where
   pub offset : ℕ
   pub of_member : offset_of s cell.member ≡ Some offset

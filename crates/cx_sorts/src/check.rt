@@ -8,13 +8,12 @@ use cx_base::{List, NoMemory};
 use cx_form::{CFile, Function, FunctionType, TypeFile};
 use std::alloc::Global;
 
-/// Applies the rules by sorts to a function of the C file and its type in the type file. What it
-/// accepts is safe: from every memory whose regions hold their types, with arguments of their
-/// types, no access is outside its region, each is one of those listed, and at the return all
-/// regions hold their types.
+/// Applies the rules by sorts to a function of a C file and its type in a type file.
 ///
-/// The result for every files is that of the rules; the promise is for files of the form. It asks
-/// that region types have numbers below 2^32.
+/// The verdict is that of the rules whatever the files are. For files of the form it is a promise:
+/// where there is no alarm, the function is safe from every memory whose regions hold their types
+/// and for all arguments of the declared types. Each access then lies inside a region whose type is
+/// the one listed, and at the return all regions hold their types and so does the result.
 pub fn check_function(
     alloc: Global,
     c: &CFile,
@@ -22,7 +21,6 @@ pub fn check_function(
     function: &Function,
     declared: &FunctionType,
 ) -> Result<Verdict, NoMemory>
-    requires { length types.now.regions < 2 ^ 32 }
     ensures exact { IfOk result (λ v. v ≡ verdict_of c.now types.now function.now declared.now) }
     ensures safe { IfOk result (λ v. AreOfForm c.now types.now function.now declared.now → v.alarm ≡ None → Safe c.now types.now function.now declared.now v.accesses) }
 {

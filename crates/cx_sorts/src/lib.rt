@@ -9,4 +9,4 @@ mod rules;
 mod verdict;
 
 pub use check::check_function;
-pub use verdict::{Access, Condition, Sort, Verdict};
+pub use verdict::{Access, Condition, Verdict};

@@ -1,4 +1,4 @@
-ghost use Rattle.std.specs.Prelude.{◌≡◌, ◌^◌, ◌<◌, length, option_copied, IfSome};
+ghost use Rattle.std.specs.Prelude.{◌≡◌, option_copied};
 ghost use Rattle.cx_sorts.specs.Names.{same_name, struct_of, variable, place_of};
 
 use cx_form::{CFile, Function, Struct, TypeFile, Word};
@@ -30,24 +30,13 @@ pub fn variable(f: &Function, name: &Word) -> Option<usize>
         .position(|p| same_name(&p.name, name))
 }
 
-fn region_place(types: &TypeFile, name: &Word) -> Option<usize>
-    ensures place { result ≡ place_of types.now name.now }
-    ensures below { IfSome result (λ k. k < length types.now.regions) }
+/// The place of a region type, counted from 0.
+pub fn place_of(types: &TypeFile, name: &Word) -> Option<usize>
+    ensures { result ≡ place_of types.now name.now }
 {
     types
         .regions
         .as_slice()
         .iter()
         .position(|r| same_name(&r.name, name))
-}
-
-/// The place of a region type, counted from 0.
-pub fn place_of(types: &TypeFile, name: &Word) -> Option<u32>
-    requires { length types.now.regions < 2 ^ 32 }
-    ensures { result ≡ place_of types.now name.now }
-{
-    match region_place(types, name) {
-        Some(k) => Some(k as u32),
-        None => None,
-    }
 }

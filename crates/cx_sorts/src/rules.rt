@@ -1,7 +1,7 @@
 ghost use Rattle.std.specs.Prelude.{◌≡◌, ◌^◌, ◌<◌, length, map, IfOk, option_map, option_copied, Option};
 ghost use Rattle.std.specs.Result.{result_map_both};
 ghost use Rattle.cx_sorts.specs.Meaning.{cover, member_offset};
-ghost use Rattle.cx_sorts.specs.Rules.{sort_of, target_of, known_target, region_type, cell_at, within, held_at, fits, may_store, loaded, rule, access_span, result_alarm, return_alarm};
+ghost use Rattle.cx_sorts.specs.Rules.{region_of, sort_of, target_of, known_target, region_type, cell_at, within, held_at, fits, may_store, loaded, rule, access_span, result_alarm, return_alarm};
 
 use crate::layout::{offset_of, struct_size};
 use crate::names::{place_of, struct_of, variable};
@@ -32,13 +32,21 @@ fn member_offset(c: &CFile, f: &Function, p: &Word, m: &Word) -> Option<u128>
     }
 }
 
+fn region_of(types: &TypeFile, name: &Word) -> Option<u32>
+    ensures { result ≡ region_of types.now name.now }
+{
+    match place_of(types, name) {
+        Some(k) => u32::try_from(k).ok(),
+        None => None,
+    }
+}
+
 fn sort_of(types: &TypeFile, holds: &Argument) -> Sort
-    requires { length types.now.regions < 2 ^ 32 }
     ensures { result ≡ sort_of types.now holds.now }
 {
     match holds {
         Argument::Any => Sort::Any,
-        Argument::Pointer(name) => match place_of(types, name) {
+        Argument::Pointer(name) => match region_of(types, name) {
             Some(k) => Sort::Pointer(k),
             None => Sort::Any,
         },
@@ -51,7 +59,6 @@ pub fn sorts_of(
     types: &TypeFile,
     declared: &FunctionType,
 ) -> Result<List<Sort>, NoMemory>
-    requires { length types.now.regions < 2 ^ 32 }
     ensures { IfOk result (λ sorts. sorts ≡ map (sort_of types.now) declared.now.arguments) }
 {
     let mut sorts = List::new(alloc);
@@ -124,14 +131,13 @@ fn held_at<'a>(
     Some(cell_at(region, s, offset))
 }
 
-fn fits(types: &TypeFile, target: Option<u32>, holds: &Argument) -> bool
-    requires { length types.now.regions < 2 ^ 32 }
-    ensures { result ≡ fits types.now target holds.now }
+fn fits(types: &TypeFile, known: Option<u32>, holds: &Argument) -> bool
+    ensures { result ≡ fits types.now known holds.now }
 {
     match holds {
         Argument::Any => true,
-        Argument::Pointer(name) => match place_of(types, name) {
-            Some(k) => target == Some(k),
+        Argument::Pointer(name) => match region_of(types, name) {
+            Some(k) => known == Some(k),
             None => false,
         },
     }
@@ -144,7 +150,6 @@ fn take_load(
     x: &Word,
     held: Option<&Argument>,
 )
-    requires { length types.now.regions < 2 ^ 32 }
     ensures { sorts.new ≡ loaded types.now f.now sorts.old x.now (option_copied held.entry) }
 {
     let sort = match held {
@@ -158,12 +163,11 @@ fn take_load(
     }
 }
 
-fn may_store(types: &TypeFile, target: Option<u32>, held: Option<&Argument>) -> bool
-    requires { length types.now.regions < 2 ^ 32 }
-    ensures { result ≡ may_store types.now target (option_copied held.entry) }
+fn may_store(types: &TypeFile, known: Option<u32>, held: Option<&Argument>) -> bool
+    ensures { result ≡ may_store types.now known (option_copied held.entry) }
 {
     match held {
-        Some(holds) => fits(types, target, holds),
+        Some(holds) => fits(types, known, holds),
         None => false,
     }
 }
@@ -177,7 +181,6 @@ pub fn rule(
     sorts: &mut List<Sort>,
     statement: &Statement,
 ) -> Result<Access, u8>
-    requires { length types.now.regions < 2 ^ 32 }
     ensures { result_map_both (λ access. (access, sorts.new)) (λ n. n) result ≡ rule c.now types.now f.now sorts.old statement.now }
 {
     match statement {
@@ -237,7 +240,6 @@ fn result_alarm(
     ending: &Ending,
     declared: &FunctionType,
 ) -> Option<Condition>
-    requires { length types.now.regions < 2 ^ 32 }
     ensures { result ≡ result_alarm types.now f.now sorts.now ending.now.span ending.now.value declared.now.result }
 {
     let x = ending.value.as_ref()?;
@@ -258,7 +260,6 @@ pub fn return_alarm(
     declared: &FunctionType,
     sorts: &List<Sort>,
 ) -> Option<Condition>
-    requires { length types.now.regions < 2 ^ 32 }
     ensures { result ≡ return_alarm types.now f.now declared.now sorts.now }
 {
     match &f.ending {
