@@ -14,13 +14,13 @@ neg-mul (suc q) m = negsuc-*ℤ-pos q m
 negative_rest : (a q r m n : ℕ) → q + r ≡ a → r < m → n ≡ q + m → pos (m - 1 - r) ≡ negsuc a +ℤ pos n
 negative_rest a q r m n e b f = omega (arith, ints)
 
-rest_congruent : (v : ℤ) (m : ℕ) → 0 < m → (k : ℤ) × (int_rem_euclid v (pos m) ≡ v +ℤ k *ℤ pos m)
+pub rest_congruent : (v : ℤ) (m : ℕ) → 0 < m → (k : ℤ) × (int_rem_euclid v (pos m) ≡ v +ℤ k *ℤ pos m)
 rest_congruent (pos a) m h =
     (neg_ℤ (pos (a / m)), rw (neg-mul (a / m) m) (let e = div-add-mod' a m in omega (arith, ints, e)))
 rest_congruent (negsuc a) m h =
     (pos (a / m + 1), negative_rest a (a / m * m) (a % m) m ((a / m + 1) * m) (div-add-mod' a m) (mod_below a m h) (grind arith))
 
-rest_below : (v : ℤ) (m : ℕ) → 0 < m → (pos 0 ≤ℤ int_rem_euclid v (pos m)) × (int_rem_euclid v (pos m) <ℤ pos m)
+pub rest_below : (v : ℤ) (m : ℕ) → 0 < m → (pos 0 ≤ℤ int_rem_euclid v (pos m)) × (int_rem_euclid v (pos m) <ℤ pos m)
 rest_below (pos a) m h = let b = mod_below a m h in (omega (arith, ints), omega (arith, ints, b))
 rest_below (negsuc a) m h = let b = mod_below a m h in (omega (arith, ints), omega (arith, ints, b))
 
@@ -65,7 +65,7 @@ wrapped-InRange size true v h =
     range_by (half_of size) (int_rem_euclid v (pos (2 * half_of size))) b.0 b.1 (int_le (pos (half_of size)) (int_rem_euclid v (pos (2 * half_of size)))) refl
 wrapped-InRange size false v h = let p = half_positive size h in rest_below v (2 * half_of size) (omega arith)
 
-dist : (a c b : ℤ) → (a +ℤ b) *ℤ c ≡ a *ℤ c +ℤ b *ℤ c
+pub dist : (a c b : ℤ) → (a +ℤ b) *ℤ c ≡ a *ℤ c +ℤ b *ℤ c
 dist a c = ℤ_ind (λ b. (a +ℤ b) *ℤ c ≡ a *ℤ c +ℤ b *ℤ c)
     (ap (λ x. x *ℤ c) (+ℤ_idr a) ∙ sym (ap (λ x. a *ℤ c +ℤ x) (zero-*ℤ c) ∙ +ℤ_idr (a *ℤ c)))
     (λ n h. ap (λ x. x *ℤ c) (sym (+ℤ_assoc a (pos n) (pos 1)) ∙ +ℤ_one (a +ℤ pos n)) ∙ suc_ℤ-*ℤ (a +ℤ pos n) c ∙ ap (λ x. x +ℤ c) h ∙ +ℤ_assoc (a *ℤ c) (pos n *ℤ c) c

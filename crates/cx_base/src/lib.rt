@@ -1,6 +1,7 @@
 //! What every crate of Codex stands on: numbers of C, spans, lists and memory.
 #![tactic(auto)]
 
+mod bytes;
 mod list;
 mod memory;
 mod names;
