@@ -1,5 +1,5 @@
 -- A list of vectors, and the list of their items.
-use Rattle.std.proofs.Common.{◌≢◌, ◌<◌, ◌-◌, ◌^◌, length, get_or, subst, sym, arith, length-append, ◌≡◌, ℕ, List, [], ◌∷◌, ◌++◌, map, position, refl, ◌∙◌, Bool, true, false, cond, Some, None, ap, not, ◌||◌, ◌+◌, suc, Result, Ok, Err, Option}
+use Rattle.std.proofs.Common.{◌≢◌, ◌<◌, ◌≤◌, ◌-◌, ◌^◌, length, get_or, subst, sym, arith, length-append, ◌≡◌, ℕ, List, [], ◌∷◌, ◌++◌, map, position, refl, ◌∙◌, Bool, true, false, cond, Some, None, ap, not, ◌||◌, ◌+◌, suc, Result, Ok, Err, Option}
 use Rattle.std.specs.Prelude.{Vec}
 use Rattle.std.specs.List.{position_or_len, list_any}
 use Rattle.std.specs.Str.{bytes_eq}
@@ -9,7 +9,7 @@ use Rattle.indexmap.specs.IndexSet.{insert_key}
 use Rattle.std.proofs.lemmas.List.Folds.{list_any_at}
 use Rattle.std.proofs.lemmas.List.Quantifiers.{all_pairs_push}
 use Rattle.std.proofs.lemmas.Slice.Eq.{bytes_eq-Decides}
-use Rattle.std.specs.Prelude.{All, slice_get, IfOk, OnOk, IfSome, IfNone}
+use Rattle.std.specs.Prelude.{All, slice_get, IfOk, OnOk, OnErr, IfSome, IfNone}
 use Rattle.std.proofs.lemmas.List.Quantifiers.{position-Some}
 use Rattle.std.proofs.lemmas.Option.{slice_get-get_or}
 use Rattle.cx_base.proofs.Positions.{position_none}
@@ -92,3 +92,12 @@ number_found None texts text e = tt
 pub number_absent : (o : Option ℕ) (texts : List (List ℕ)) (text : List ℕ) → o ≡ position (bytes_eq text) texts → IfNone o (All (λ t. t ≢ text) texts)
 number_absent (Some n) texts text e = tt
 number_absent None texts text e = absent_text texts text (sym e)
+
+length_chosen : (b : Bool) (texts : List (List ℕ)) (text : List ℕ) → length (cond b texts (texts ++ text ∷ [])) ≤ length texts + 1
+length_chosen true texts text = omega arith
+length_chosen false texts text = omega (arith, length-append {A = List ℕ})
+
+-- at most one text more
+pub number_grows : {E : Type 0} (r : Result ℕ E) (old new : List (List ℕ)) (text : List ℕ) → OnOk r (new ≡ numbered old text) → OnErr r (new ≡ old) → length new ≤ length old + 1
+number_grows (Ok n) old new text e f = rw e (length_chosen (list_any (bytes_eq text) old) old text)
+number_grows (Err x) old new text e f = rw f (omega arith)

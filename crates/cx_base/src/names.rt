@@ -1,4 +1,4 @@
-ghost use Rattle.std.specs.Prelude.{◌≡◌, ◌<◌, ◌-◌, ◌^◌, [], length, IfOk, OnOk, OnErr, option_map, slice_get, position, ◌≢◌, IfSome, IfNone, Some, All};
+ghost use Rattle.std.specs.Prelude.{◌≡◌, ◌<◌, ◌≤◌, ◌+◌, ◌-◌, ◌^◌, [], length, IfOk, OnOk, OnErr, option_map, slice_get, position, ◌≢◌, IfSome, IfNone, Some, All};
 ghost use Rattle.std.specs.Str.{bytes_eq};
 ghost use Rattle.std.specs.List.{position_or_len};
 ghost use Rattle.cx_base.specs.Names.{Numbering, numbered};
@@ -73,12 +73,12 @@ impl Names {
 
     /// The number of the text: the one that it has, or else the next one, which it has from now on.
     /// No other text gets or loses a number. After `NoMemory` nothing has changed.
-    #[tactic(auto, using(crate::proofs::Texts::number_stands))]
     pub fn number(&mut self, text: &[u8]) -> Result<u32, NoMemory>
         requires { length self.old < 2 ^ 32 - 1 }
         ensures value { IfOk result (λ n. n ≡ position_or_len (bytes_eq text.now) self.old) }
         ensures new { OnOk result (self.new ≡ numbered self.old text.now) }
         ensures stands { IfOk result (λ n. slice_get self.new n ≡ Some text.now) }
+        ensures grows { length self.new ≤ length self.old + 1 }
         ensures err { OnErr result (self.new ≡ self.old) }
     {
         self.insert(text)
