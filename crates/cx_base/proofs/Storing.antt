@@ -1,19 +1,18 @@
 -- What a store leaves in a region.
-use Rattle.std.proofs.Common.{◌≡◌, ◌+◌, ◌-◌, ◌*◌, ◌<◌, ◌≤◌, ◌^◌, ◌++◌, ◌⊎◌, ℕ, ℤ, pos, negsuc, ◌+ℤ◌, ◌*ℤ◌, ◌≤ℤ◌, ◌<ℤ◌, Bool, List, length, arith, drop, take, refl, ap, sym, ◌∙◌, append_assoc, length-append, length-drop, lit<, inl, inr}
+use Rattle.std.proofs.Common.{◌≡◌, ◌+◌, ◌-◌, ◌*◌, ◌<◌, ◌≤◌, ◌^◌, ◌++◌, ◌⊎◌, ℕ, ℤ, pos, negsuc, ◌≤ℤ◌, ◌<ℤ◌, Bool, List, length, arith, drop, take, refl, ap, sym, ◌∙◌, append_assoc, length-append, length-drop, lit<, inl, inr}
 use Rattle.std.specs.Prelude.{nat_abs, slice_range}
 use Rattle.std.specs.Int.{int_rem_euclid}
 use Rattle.std.specs.List.{splice}
-use Rattle.std.proofs.Math.IntN.{+ℤ_assoc}
 use Rattle.std.proofs.lemmas.Int.{ints}
 use Rattle.std.proofs.lemmas.List.{take-append-le, take-take, take_at, drop_at, length-take-le}
 use Rattle.std.proofs.lemmas.Slice.{between_is, drop-append-drop}
 use Rattle.cx_base.specs.declared.memory.Region.{Region}
 use Rattle.cx_base.specs.Bytes.{number_of}
 use Rattle.cx_base.specs.Memory.{size_of, loaded, stored, low_bytes}
-use Rattle.cx_base.specs.Number.{HasSize, wrapped}
+use Rattle.cx_base.specs.Number.{HasSize, Congruent, wrapped}
 use Rattle.cx_base.proofs.Digits.{length-bytes_of, number_of-bytes_of}
 use Rattle.cx_base.proofs.Sizes.{at_sizes}
-use Rattle.cx_base.proofs.Wrapping.{rest_below, rest_congruent, dist, wrapped-InRange, wrapped-Congruent, only_wrapped}
+use Rattle.cx_base.proofs.Wrapping.{rest_below, rest_congruent, wrapped-InRange, wrapped-Congruent, only_wrapped, congruent_chain}
 
 -- the remainder is a natural number below the modulus
 natural : (r : ℤ) (m : ℕ) → pos 0 ≤ℤ r → r <ℤ pos m → (pos (nat_abs r) ≡ r) × (nat_abs r < m)
@@ -33,13 +32,10 @@ low_is size v h =
 -- to take the low bytes first changes nothing
 wrapped_low : (size : ℕ) (signed : Bool) (v : ℤ) → HasSize size → wrapped size signed (pos (nat_abs (int_rem_euclid v (pos (2 ^ (8 * size)))))) ≡ wrapped size signed v
 wrapped_low size signed v h =
-    let m : ℕ = 2 ^ (8 * size) in
     let low : ℤ = pos (nat_abs (int_rem_euclid v (pos (2 ^ (8 * size))))) in
     let r = rest_congruent v (2 ^ (8 * size)) (positive size h) in
-    let c = wrapped-Congruent size signed low h in
-    let e : low ≡ v +ℤ r.0 *ℤ pos (2 ^ (8 * size)) = (low_is size v h).0 ∙ r.1 in
-    only_wrapped size signed v (wrapped size signed low) h (wrapped-InRange size signed low h)
-    (r.0 +ℤ c.0, c.1 ∙ ap (λ x. x +ℤ c.0 *ℤ pos (2 ^ (8 * size))) e ∙ +ℤ_assoc v (r.0 *ℤ pos (2 ^ (8 * size))) (c.0 *ℤ pos (2 ^ (8 * size))) ∙ ap (λ x. v +ℤ x) (sym (dist r.0 (pos (2 ^ (8 * size))) c.0)))
+    let e : Congruent size low v = (r.0, (low_is size v h).0 ∙ r.1) in
+    only_wrapped size signed v (wrapped size signed low) h (wrapped-InRange size signed low h) (congruent_chain size (wrapped size signed low) low v (wrapped-Congruent size signed low h) e)
 
 -- the part that was written
 part_written : (bytes new : List ℕ) (from to : ℕ) → from ≤ to → to ≤ length bytes → length new ≡ to - from → slice_range (splice bytes from to new) from to ≡ new

@@ -1,4 +1,4 @@
-//! What every crate of Codex stands on: numbers of C, spans, lists and memory.
+//! What every crate of Codex stands on: integer types of C, spans and places of a text, lists, names and memory.
 #![tactic(auto)]
 
 mod bytes;
