@@ -1,4 +1,6 @@
 pub mod formers
 pub mod Bytes
 pub mod Memory
+pub mod Names
 pub mod Number
+pub mod Place

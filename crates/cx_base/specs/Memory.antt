@@ -1,5 +1,9 @@
 -- Memory as a list of regions.
-use Rattle.std.specs.Prelude.{ℕ, ℤ, pos, ◌≡◌, ◌≤◌, ◌<◌, ◌+◌, ◌^◌, ◌≤ℤ◌, ◌-ℤ◌, List, length, max, All, AllPairs, Bool, false, nat_lt, ◌&&◌, Option, position}
+use Rattle.std.specs.Int.{int_rem_euclid}
+use Rattle.std.specs.List.{splice}
+use Rattle.std.specs.Prelude.{ℕ, ℤ, pos, ◌≡◌, ◌≤◌, ◌<◌, ◌+◌, ◌*◌, ◌^◌, ◌≤ℤ◌, ◌-ℤ◌, nat_abs, List, length, max, slice_range, All, AllPairs, Bool, false, nat_lt, ◌&&◌, Option, position}
+use Rattle.cx_base.specs.Bytes.{number_of, bytes_of}
+use Rattle.cx_base.specs.Number.{wrapped}
 use Rattle.cx_base.specs.declared.memory.Region.{Region}
 
 -- how many bytes a region has
@@ -39,3 +43,20 @@ pub record Valid (rs : List Region) : Type 0 where
 pub record Holds (r : Region) (a k : ℕ) : Type 0 where
   pub from : r.base ≤ a
   pub to : a + k ≤ r.base + size_of r
+
+-- the number of this size and sign that the region's bytes from the offset on write
+abbrev pub loaded : Region → ℕ → ℕ → Bool → ℤ
+loaded r off size signed = wrapped size signed (pos (number_of (slice_range r.bytes off (off + size))))
+
+-- the low bytes of a number
+abbrev pub low_bytes : ℕ → ℤ → List ℕ
+low_bytes size v = bytes_of size (nat_abs (int_rem_euclid v (pos (2 ^ (8 * size)))))
+
+-- the region with the low bytes of a number at the offset, and all else as it was
+abbrev pub stored : Region → ℕ → ℕ → ℤ → Region
+stored r off size v = record {
+  base = r.base;
+  name = r.name;
+  args = r.args;
+  bytes = splice r.bytes off (off + size) (low_bytes size v);
+}

@@ -1,4 +1,4 @@
-ghost use Rattle.std.specs.Prelude.{◌≡◌, ◌<◌, ◌≤◌, [], ◌∷◌, ◌++◌, length, take, remove, OnOk, OnErr, Some, slice_get, slice_set, option_copied};
+ghost use Rattle.std.specs.Prelude.{◌≡◌, ◌<◌, ◌≤◌, [], ◌∷◌, ◌++◌, length, take, remove, IfOk, OnOk, OnErr, Some, slice_get, slice_set, option_copied};
 
 use std::alloc::{AllocError, AllocFailed, Global};
 use std::marker::Model;
@@ -112,5 +112,18 @@ impl<T> List<T> {
         ensures { self.new ≡ take n self.old }
     {
         self.items.truncate(n)
+    }
+}
+
+impl<T: Copy> List<T> {
+    /// The same list once more, by the allocator that this one keeps.
+    pub fn copy(&self) -> Result<List<T>, NoMemory>
+        ensures { IfOk result (λ copy. copy ≡ self.now) }
+    {
+        let mut copy = List::new(self.alloc());
+        for x in self.as_slice() {
+            copy.push(*x)?;
+        }
+        Ok(copy)
     }
 }
