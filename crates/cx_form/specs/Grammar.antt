@@ -12,7 +12,7 @@
 --   cell   = NAME ":" ( "any8" | "ptr" NAME ) ";"
 --   fn     = "fn" NAME "(" [ arg { "," arg } ] ")" "->" ( "void" | arg ) ";"
 --   arg    = "any" | "ptr" NAME
-use Rattle.std.specs.Prelude.{◌≡◌, ℕ, Bool, true, false, ◌&&◌, ◌||◌, not, List, [], ◌∷◌, ◌++◌, length, take, drop, Option, Some, None, codes}
+use Rattle.std.specs.Prelude.{◌≡◌, ℕ, Bool, true, false, ◌&&◌, ◌||◌, not, List, [], ◌∷◌, ◌++◌, length, nat_lt, take, drop, Option, Some, None, codes}
 use Rattle.std.specs.List.{list_any, list_all, flat_map}
 use Rattle.std.specs.Str.{bytes_eq}
 use Rattle.cx_form.specs.declared.tree.Word.{Word}
@@ -44,8 +44,7 @@ reserved =
 
 -- one digit or more
 abbrev pub are_digits : List ℕ → Bool
-are_digits [] = false
-are_digits (b ∷ bs) = list_all is_digit (b ∷ bs)
+are_digits text = nat_lt 0 (length text) && list_all is_digit text
 
 -- this stem, and then digits
 abbrev pub is_stem_with_digits : List ℕ → List ℕ → Bool
@@ -127,10 +126,13 @@ abbrev pub ending_pieces : Option Ending → List Piece
 ending_pieces None = []
 ending_pieces (Some e) = fixed_from e.span.first (codes "return") ∷ value_pieces e.value e.span.past
 
+-- "{" { stmt } [ "return" [ NAME ] ";" ] "}"
+abbrev pub block_pieces : List Statement → Option Ending → List Piece
+block_pieces body ending = fixed (codes "{") ∷ flat_map statement_pieces body ++ (ending_pieces ending ++ fixed (codes "}") ∷ [])
+
 -- func = ("void" | type) NAME "(" ( "void" | param { "," param } ) ")" "{" { stmt } [ "return" [ NAME ] ";" ] "}"
 abbrev pub function_pieces : Function → List Piece
-function_pieces f =
-    result_pieces f.result ++ named f.name ∷ fixed (codes "(") ∷ parameters_pieces f.parameters ++ fixed (codes ")") ∷ fixed (codes "{") ∷ flat_map statement_pieces f.body ++ ending_pieces f.ending ++ fixed (codes "}") ∷ []
+function_pieces f = result_pieces f.result ++ (named f.name ∷ fixed (codes "(") ∷ parameters_pieces f.parameters ++ (fixed (codes ")") ∷ block_pieces f.body f.ending))
 
 abbrev pub optional_pieces : {A : Type 0} → (A → List Piece) → Option A → List Piece
 optional_pieces pieces None = []
@@ -176,7 +178,7 @@ answer_pieces (Some a) = argument_pieces a
 
 -- fn = "fn" NAME "(" [ arg { "," arg } ] ")" "->" ( "void" | arg ) ";"
 abbrev pub function_type_pieces : FunctionType → List Piece
-function_type_pieces f = fixed (codes "fn") ∷ named f.name ∷ fixed (codes "(") ∷ arguments_pieces f.arguments ++ fixed (codes ")") ∷ fixed (codes "->") ∷ answer_pieces f.result ++ fixed (codes ";") ∷ []
+function_type_pieces f = fixed (codes "fn") ∷ named f.name ∷ fixed (codes "(") ∷ arguments_pieces f.arguments ++ (fixed (codes ")") ∷ fixed (codes "->") ∷ answer_pieces f.result ++ fixed (codes ";") ∷ [])
 
 -- tfile = { region } [ fn ]
 abbrev pub type_file_pieces : TypeFile → List Piece

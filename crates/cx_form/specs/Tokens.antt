@@ -1,5 +1,6 @@
 -- How a text is made of white space and tokens. A token is its text with the place where it stands.
 use Rattle.std.specs.Prelude.{ℕ, zero, suc, ◌+◌, Bool, false, ◌==◌, ◌&&◌, ◌||◌, if◌then◌else◌, nat_le, List, [], ◌∷◌, length, take, Option, Some, None, option_map}
+use Rattle.std.specs.List.{prefix_len}
 use Rattle.std.proofs.Math.Nat.{le-add_right}
 use Rattle.cx_form.specs.declared.tree.Word.{Word}
 
@@ -21,11 +22,6 @@ goes_on b = starts_name b || is_digit b
 unfoldable pub is_mark : ℕ → Bool
 is_mark b = (b == 123) || (b == 125) || (b == 40) || (b == 41) || (b == 59) || (b == 58) || (b == 44) || (b == 42) || (b == 61)
 
--- how many bytes at the front go on with a Name
-unfoldable pub name_len : List ℕ → ℕ
-name_len [] = 0
-name_len (b ∷ bs) = if goes_on b then suc (name_len bs) else 0
-
 -- the byte at the front is this one
 abbrev pub next_is : ℕ → List ℕ → Bool
 next_is a [] = false
@@ -33,7 +29,7 @@ next_is a (b ∷ bs) = b == a
 
 -- how many bytes the token has that begins with this byte before these: a Name is as long as it can be, and `->` has two; 0 where none begins
 unfoldable pub token_len : ℕ → List ℕ → ℕ
-token_len b bs = if starts_name b then suc (name_len bs) else (if is_mark b then 1 else (if (b == 45) && next_is 62 bs then 2 else 0))
+token_len b bs = if starts_name b then suc (prefix_len goes_on bs) else (if is_mark b then 1 else (if (b == 45) && next_is 62 bs then 2 else 0))
 
 -- the token with this text whose first byte stands at this place
 abbrev pub word_at : ℕ → List ℕ → Word

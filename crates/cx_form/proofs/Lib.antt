@@ -1,0 +1,11 @@
+pub mod Many
+pub mod Spans
+pub mod Options
+pub mod Texts
+pub mod Lexing
+pub mod Exact
+pub mod CParts
+pub mod TypeParts
+pub mod RulesHold
+pub mod Whole
+pub mod Examples
