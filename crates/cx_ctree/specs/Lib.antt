@@ -1,1 +1,4 @@
 pub mod Types
+pub mod Exprs
+pub mod Stmts
+pub mod Decls
