@@ -2,3 +2,4 @@ pub mod Types
 pub mod Exprs
 pub mod Stmts
 pub mod Decls
+pub mod Path

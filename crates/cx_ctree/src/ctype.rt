@@ -1,4 +1,5 @@
-ghost use Rattle.std.specs.Prelude.{◌≡◌, ◌↔◌, IsTrue, IfOk};
+ghost use Rattle.std.specs.Prelude.{◌≡◌, ◌<◌, ◌↔◌, IsTrue, IfOk};
+ghost use Rattle.cx_ctree.specs.Path.{type_path};
 ghost use Rattle.cx_ctree.specs.Types.{type_tree};
 
 use cx_base::{CInt, List, NoMemory};
@@ -34,6 +35,16 @@ impl CType {
                 Ok(CType::Array(Box::new(*Box::allocator(element), copy)?, *count))
             }
             CType::Tag(tag) => Ok(CType::Tag(*tag)),
+        }
+    }
+
+    /// Whether its longest path has more than so many nodes.
+    pub fn exceeds(&self, nodes: u32) -> bool
+        ensures { IsTrue result ↔ (nodes < type_path (type_tree self.now)) }
+    {
+        match self {
+            CType::Void | CType::Int(_) | CType::Tag(_) => nodes == 0,
+            CType::Ptr(inner) | CType::Array(inner, _) => nodes == 0 || inner.exceeds(nodes - 1),
         }
     }
 

@@ -1,3 +1,7 @@
+ghost use Rattle.std.specs.Prelude.{◌↔◌, ◌<◌, IsTrue};
+ghost use Rattle.cx_ctree.specs.Exprs.{expr_tree};
+ghost use Rattle.cx_ctree.specs.Path.{expr_path};
+
 use crate::ctype::CType;
 use cx_base::{CInt, List, Span};
 
@@ -101,4 +105,29 @@ pub enum Effect {
     Call(Call),
     /// An expression whose value nothing takes.
     Value(Expr),
+}
+
+impl Expr {
+    /// Whether its longest path has more than so many nodes, which are expressions and types.
+    pub fn exceeds(&self, nodes: u32) -> bool
+        ensures { IsTrue result ↔ (nodes < expr_path (expr_tree self.now)) }
+    {
+        if nodes == 0 {
+            return true;
+        }
+        let below = nodes - 1;
+        match &self.kind {
+            ExprKind::Num(_, _) | ExprKind::Name(_) | ExprKind::Local(_) | ExprKind::Global(_) => {
+                false
+            }
+            ExprKind::SizeOf(ctype) => ctype.exceeds(below),
+            ExprKind::Cast(ctype, a) => ctype.exceeds(below) || a.exceeds(below),
+            ExprKind::Unary(_, a) | ExprKind::SizeOfExpr(a) => a.exceeds(below),
+            ExprKind::Member(a, _) | ExprKind::Arrow(a, _) => a.exceeds(below),
+            ExprKind::Deref(a) | ExprKind::Address(a) => a.exceeds(below),
+            ExprKind::Binary(_, a, b) => a.exceeds(below) || b.exceeds(below),
+            ExprKind::Index(a, b) => a.exceeds(below) || b.exceeds(below),
+            ExprKind::Cond(a, b, c) => a.exceeds(below) || b.exceeds(below) || c.exceeds(below),
+        }
+    }
 }
