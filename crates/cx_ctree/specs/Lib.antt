@@ -3,3 +3,5 @@ pub mod Exprs
 pub mod Stmts
 pub mod Decls
 pub mod Path
+pub mod Tags
+pub mod Layouts

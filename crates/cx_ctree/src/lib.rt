@@ -8,9 +8,11 @@ mod ctype;
 mod decl;
 mod expr;
 mod stmt;
+mod unit;
 
 pub use ctype::CType;
 pub use cx_base::{Token, TokenKind};
 pub use decl::{Decl, Function, Item, Member, Param, Signature, Tag, Typed};
 pub use expr::{Binary, Call, Effect, Expr, ExprKind, Rhs, Unary};
 pub use stmt::{Group, Stmt, StmtKind};
+pub use unit::Unit;
