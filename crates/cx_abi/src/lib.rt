@@ -1,0 +1,4 @@
+//! The layout of types of C by the System V AMD64 ABI (3.1.2): sizes, alignments and offsets.
+#![tactic(auto)]
+
+mod law;
