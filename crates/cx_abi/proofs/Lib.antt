@@ -1,1 +1,4 @@
 pub mod Shapes
+pub mod Rounding
+pub mod Complete
+pub mod Declared

@@ -1,5 +1,5 @@
 -- What a type consists of does not depend on the depth that the definition looks to.
-use Rattle.std.proofs.Common.{◌≡◌, ◌<◌, ◌≤◌, ℕ, zero, suc, Bool, true, false, List, [], ◌∷◌, Option, Some, None, IsTrue, ap, sym, refl, arith, rules, ◌&&◌, nat_lt, slice_get, subst}
+use Rattle.std.proofs.Common.{◌≡◌, ◌<◌, ◌≤◌, ℕ, zero, suc, Bool, List, [], ◌∷◌, Option, Some, None, IsTrue, ap, sym, refl, arith, ◌&&◌, nat_lt, slice_get, subst}
 use Rattle.std.proofs.lemmas.Option.{none-some, same_Some}
 use Rattle.std.specs.List.{list_all}
 use Rattle.std.specs.Option.{option_map_or}
@@ -7,7 +7,7 @@ use Rattle.cx_abi.specs.Recursion.{IsByMembers}
 use Rattle.cx_ctree.specs.Types.{TypeTree, void, int, pointer, array, tag}
 use Rattle.cx_ctree.specs.Decls.{MemberTree, TagTree}
 use Rattle.cx_ctree.specs.Tags.{rank_of, is_below, ranks, AreRanked}
-use Rattle.cx_ctree.specs.Layouts.{Shape, elements, also_member, declared, undeclared, Shapes, shape_by, shapes_by, members_by, found_by, tag_shape, shape_of}
+use Rattle.cx_ctree.specs.Layouts.{Shape, elements, declared, undeclared, shape_by, shapes_by, members_by, found_by, tag_shape, shape_of}
 
 -- both say the same of the tags of rank below r
 abbrev pub Agree : List TagTree → ℕ → (ℕ → Shape) → (ℕ → Shape) → Type 0

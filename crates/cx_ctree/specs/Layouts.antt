@@ -1,5 +1,5 @@
 -- The layout of types by the System V AMD64 ABI (3.1.2), in bytes. Numbers are whole numbers without a bound.
-use Rattle.std.specs.Prelude.{ℕ, zero, suc, ◌+◌, ◌-◌, ◌*◌, ◌/◌, ◌^◌, max, nat_lt, if◌then◌else◌, Bool, true, false, List, [], ◌∷◌, Option, Some, None, slice_get, ◌≡◌}
+use Rattle.std.specs.Prelude.{ℕ, zero, suc, ◌+◌, ◌-◌, ◌*◌, ◌/◌, ◌^◌, max, nat_lt, if◌then◌else◌, Bool, true, false, List, [], ◌∷◌, Option, Some, None, option_map, slice_get, find, ◌==◌, ◌≡◌}
 use Rattle.cx_ctree.specs.Types.{TypeTree, void, int, pointer, array, tag}
 use Rattle.cx_ctree.specs.Decls.{MemberTree, TagTree}
 use Rattle.cx_ctree.specs.Tags.{rank_of}
@@ -87,11 +87,6 @@ abbrev mutual
   end_of u from no_member = from
   end_of u from (also_member s ss) = end_of u (past u from (extent_of s)) ss
 
--- where the members stand, if those before them end at `from`
-abbrev pub offsets_of : (union_ : Bool) → ℕ → Shapes → List ℕ
-offsets_of u from no_member = []
-offsets_of u from (also_member s ss) = place u from (extent_of s) ∷ offsets_of u (past u from (extent_of s)) ss
-
 -- ---- types without a layout
 
 abbrev pub or_else : Option ℕ → Option ℕ → Option ℕ
@@ -135,3 +130,50 @@ abbrev mutual
 pub record HasLayout (tags : List TagTree) (t : TypeTree) : Type 0 where
   pub complete : first_incomplete (shape_of tags t) ≡ None
   pub fits : first_too_big (shape_of tags t) ≡ None
+
+-- ---- layouts
+
+abbrev pub shapes_of : List TagTree → List MemberTree → Shapes
+shapes_of tags ms = shapes_by (λ k. shape_of tags (tag k)) ms
+
+-- a member with its place, in bytes from the first byte of its struct or union
+pub record FieldTree : Type 0 where
+  pub name : ℕ
+  pub offset : ℕ
+  pub ctype : TypeTree
+
+-- the members, if those before them end at `from`
+abbrev pub fields_from : List TagTree → (union_ : Bool) → ℕ → List MemberTree → List FieldTree
+fields_from tags u from [] = []
+fields_from tags u from (m ∷ ms) =
+    record { name = m.name; offset = place u from (extent_of (shape_of tags m.ctype)); ctype = m.ctype }
+    ∷ fields_from tags u (past u from (extent_of (shape_of tags m.ctype))) ms
+
+abbrev pub members_fields : List TagTree → (union_ : Bool) → Option (List MemberTree) → List FieldTree
+members_fields tags u None = []
+members_fields tags u (Some ms) = fields_from tags u 0 ms
+
+abbrev pub tag_fields : List TagTree → Option TagTree → List FieldTree
+tag_fields tags None = []
+tag_fields tags (Some t) = members_fields tags t.union_ t.members
+
+-- the members of a struct or union with their places; none for another type
+abbrev pub fields_of : List TagTree → TypeTree → List FieldTree
+fields_of tags (tag k) = tag_fields tags (slice_get tags k)
+fields_of tags _ = []
+
+-- a value where the type has a layout
+abbrev pub unless : {A : Type 0} → Option ℕ → Option A → Option A
+unless None value = value
+unless (Some k) value = None
+
+abbrev pub if_laid_out : {A : Type 0} → Shape → Option A → Option A
+if_laid_out s value = unless (first_incomplete s) (unless (first_too_big s) value)
+
+-- the size of a type that has a layout
+abbrev pub size_of : List TagTree → TypeTree → Option ℕ
+size_of tags t = if_laid_out (shape_of tags t) (Some (extent_of (shape_of tags t)).size)
+
+-- the place of the member of this name of the tag k, where it has a layout and such a member
+abbrev pub offset_of : List TagTree → ℕ → (name : ℕ) → Option ℕ
+offset_of tags k name = if_laid_out (shape_of tags (tag k)) (option_map (λ f. f.offset) (find (λ f. f.name == name) (fields_of tags (tag k))))

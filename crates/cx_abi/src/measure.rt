@@ -1,0 +1,104 @@
+ghost use Rattle.std.specs.Prelude.{◌≡◌, ◌≤◌, ◌<◌, ◌+◌, ◌*◌, ◌^◌, max, map, Some, None, IfSome, IfNone, IfOk, IfErr, option_map};
+ghost use Rattle.cx_ctree.specs.Types.{type_tree, tag as tagged};
+ghost use Rattle.cx_ctree.specs.Decls.{tag_tree, member_tree};
+ghost use Rattle.cx_ctree.specs.Layouts.{shape_of, shapes_of, declared, undeclared, first_incomplete, first_incomplete_in, round_up, place, past, fields_of, fields_from, if_too_big};
+ghost use Rattle.cx_abi.specs.Extents.{extent, IsExtent};
+
+use crate::extent::{Extent, MOST_BYTES, Run};
+use cx_ctree::{CType, Member, Unit};
+
+/// What stands for a type without a size.
+fn nothing() -> Extent
+    ensures size { result.size ≡ 0 }
+    ensures align { result.align ≡ 1 }
+{
+    Extent { size: 0, align: 1 }
+}
+
+/// The least multiple of `align` from `n` on.
+#[tactic(auto, using(crate::proofs::Rounding::rounds_down))]
+fn rounded(align: u32, n: u128) -> u128
+    requires positive { 1 ≤ align }
+    requires scalar { align ≤ 8 }
+    requires room { n < 2 ^ 127 }
+    ensures value { result ≡ round_up align n }
+    ensures bound { result ≤ n + 7 }
+{
+    let step = u128::from(align);
+    (n + (step - 1)) / step * step
+}
+
+/// Where the next member of a struct or union stands, if those before it end at `from`.
+fn place(union_: bool, from: u128, part: Extent) -> u128
+    requires room { from < 2 ^ 126 }
+    ensures value { result ≡ place union_ from (extent part) }
+    ensures bound { result ≤ from + 7 }
+{
+    if union_ { 0 } else { rounded(part.align, from) }
+}
+
+/// The members once the next one of a struct or union has been put after them.
+fn grown(union_: bool, before: Run, part: Extent) -> Run
+    requires room { before.end < 2 ^ 126 }
+    ensures end { result.end ≡ past union_ before.end (extent part) }
+    ensures align { result.align ≡ max before.align part.align }
+    ensures bound { result.end ≤ before.end + (2 ^ 31 + 7) }
+{
+    let end = place(union_, before.end, part) + u128::from(part.size);
+    Run {
+        end: if before.end < end { end } else { before.end },
+        align: if before.align < part.align {
+            part.align
+        } else {
+            before.align
+        },
+    }
+}
+
+/// A struct or union of these members; its tag where it is too big.
+fn whole(tag: u32, members: Run) -> Result<Extent, u32>
+    requires room { members.end < 2 ^ 126 }
+    ensures size { IfOk result (λ e. e.size ≡ round_up members.align members.end) }
+    ensures align { IfOk result (λ e. e.align ≡ members.align) }
+    ensures fits { IfOk result (λ _. if_too_big (round_up members.align members.end) tag ≡ None) }
+    ensures too_big { IfErr result (λ k. if_too_big (round_up members.align members.end) tag ≡ Some k) }
+{
+    let size = rounded(members.align, members.end);
+    if size > u128::from(MOST_BYTES) {
+        return Err(tag);
+    }
+    Ok(Extent {
+        size: size as u64,
+        align: members.align,
+    })
+}
+
+/// An array of so many elements; 0 where it is too big.
+fn repeated(element: Extent, count: u32) -> Result<Extent, u32>
+    ensures size { IfOk result (λ e. e.size ≡ count * element.size) }
+    ensures align { IfOk result (λ e. e.align ≡ element.align) }
+    ensures fits { IfOk result (λ _. if_too_big (count * element.size) 0 ≡ None) }
+    ensures too_big { IfErr result (λ k. if_too_big (count * element.size) 0 ≡ Some k) }
+{
+    let size = u64::from(count) * element.size;
+    if size > MOST_BYTES {
+        return Err(0);
+    }
+    Ok(Extent {
+        size,
+        align: element.align,
+    })
+}
+
+/// Whether the tag is a union's, and its members; None where it has none.
+#[tactic(auto, using(crate::proofs::Declared::declared_at, crate::proofs::Declared::complete_at, crate::proofs::Declared::fields_at, crate::proofs::Shapes::by_members))]
+pub fn declaration(unit: &Unit, tag: u32) -> Option<(bool, &[Member])>
+    ensures none { IfNone result (shape_of (map tag_tree unit.now.tags) (tagged tag) ≡ undeclared tag) }
+    ensures some { IfSome result (λ d. shape_of (map tag_tree unit.now.tags) (tagged tag) ≡ declared tag d.0 (shapes_of (map tag_tree unit.now.tags) (map member_tree d.1.now))) }
+    ensures complete { IfSome result (λ d. first_incomplete_in (shapes_of (map tag_tree unit.now.tags) (map member_tree d.1.now)) ≡ None) }
+    ensures fields { IfSome result (λ d. fields_of (map tag_tree unit.now.tags) (tagged tag) ≡ fields_from (map tag_tree unit.now.tags) d.0 0 (map member_tree d.1.now)) }
+{
+    let found = unit.tags.get(tag as usize)?;
+    let members = found.members.as_ref()?;
+    Some((found.union_, members.as_slice()))
+}
