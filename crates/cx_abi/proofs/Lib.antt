@@ -2,3 +2,5 @@ pub mod Shapes
 pub mod Rounding
 pub mod Complete
 pub mod Declared
+pub mod Nodes
+pub mod Runs

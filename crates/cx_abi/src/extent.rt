@@ -12,12 +12,3 @@ pub struct Extent {
     ghost positive: { 1 ≤ align },
     ghost scalar: { align ≤ 8 },
 }
-
-/// Members one after another: where they end, and their greatest alignment.
-#[derive(Clone, Copy)]
-pub struct Run {
-    pub end: u128,
-    pub align: u32,
-    ghost positive: { 1 ≤ align },
-    ghost scalar: { align ≤ 8 },
-}

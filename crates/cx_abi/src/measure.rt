@@ -1,10 +1,11 @@
 ghost use Rattle.std.specs.Prelude.{◌≡◌, ◌≤◌, ◌<◌, ◌+◌, ◌*◌, ◌^◌, max, map, Some, None, IfSome, IfNone, IfOk, IfErr, option_map};
+ghost use Rattle.cx_base.specs.Number.{HasSize};
 ghost use Rattle.cx_ctree.specs.Types.{type_tree, tag as tagged};
 ghost use Rattle.cx_ctree.specs.Decls.{tag_tree, member_tree};
 ghost use Rattle.cx_ctree.specs.Layouts.{shape_of, shapes_of, declared, undeclared, first_incomplete, first_incomplete_in, round_up, place, past, fields_of, fields_from, if_too_big};
 ghost use Rattle.cx_abi.specs.Extents.{extent, IsExtent};
 
-use crate::extent::{Extent, MOST_BYTES, Run};
+use crate::extent::{Extent, MOST_BYTES};
 use cx_ctree::{CType, Member, Unit};
 
 /// What stands for a type without a size.
@@ -13,6 +14,18 @@ fn nothing() -> Extent
     ensures align { result.align ≡ 1 }
 {
     Extent { size: 0, align: 1 }
+}
+
+/// A type whose alignment is its size.
+fn scalar(size: u8) -> Extent
+    requires { HasSize size }
+    ensures size { result.size ≡ size }
+    ensures align { result.align ≡ size }
+{
+    Extent {
+        size: u64::from(size),
+        align: u32::from(size),
+    }
 }
 
 /// The least multiple of `align` from `n` on.
@@ -37,39 +50,33 @@ fn place(union_: bool, from: u128, part: Extent) -> u128
     if union_ { 0 } else { rounded(part.align, from) }
 }
 
-/// The members once the next one of a struct or union has been put after them.
-fn grown(union_: bool, before: Run, part: Extent) -> Run
-    requires room { before.end < 2 ^ 126 }
-    ensures end { result.end ≡ past union_ before.end (extent part) }
-    ensures align { result.align ≡ max before.align part.align }
-    ensures bound { result.end ≤ before.end + (2 ^ 31 + 7) }
+/// Where the members of a struct or union end once the next one stands.
+fn past(union_: bool, from: u128, part: Extent) -> u128
+    requires room { from < 2 ^ 126 }
+    ensures value { result ≡ past union_ from (extent part) }
+    ensures bound { result ≤ from + (2 ^ 31 + 7) }
 {
-    let end = place(union_, before.end, part) + u128::from(part.size);
-    Run {
-        end: if before.end < end { end } else { before.end },
-        align: if before.align < part.align {
-            part.align
-        } else {
-            before.align
-        },
-    }
+    let end = place(union_, from, part) + u128::from(part.size);
+    if from < end { end } else { from }
 }
 
-/// A struct or union of these members; its tag where it is too big.
-fn whole(tag: u32, members: Run) -> Result<Extent, u32>
-    requires room { members.end < 2 ^ 126 }
-    ensures size { IfOk result (λ e. e.size ≡ round_up members.align members.end) }
-    ensures align { IfOk result (λ e. e.align ≡ members.align) }
-    ensures fits { IfOk result (λ _. if_too_big (round_up members.align members.end) tag ≡ None) }
-    ensures too_big { IfErr result (λ k. if_too_big (round_up members.align members.end) tag ≡ Some k) }
+/// A struct or union whose members end at `end`; its tag where it is too big.
+fn whole(tag: u32, end: u128, align: u32) -> Result<Extent, u32>
+    requires positive { 1 ≤ align }
+    requires scalar { align ≤ 8 }
+    requires room { end < 2 ^ 126 }
+    ensures size { IfOk result (λ e. e.size ≡ round_up align end) }
+    ensures align { IfOk result (λ e. e.align ≡ align) }
+    ensures fits { IfOk result (λ _. if_too_big (round_up align end) tag ≡ None) }
+    ensures too_big { IfErr result (λ k. if_too_big (round_up align end) tag ≡ Some k) }
 {
-    let size = rounded(members.align, members.end);
+    let size = rounded(align, end);
     if size > u128::from(MOST_BYTES) {
         return Err(tag);
     }
     Ok(Extent {
         size: size as u64,
-        align: members.align,
+        align,
     })
 }
 
@@ -101,4 +108,54 @@ pub fn declaration(unit: &Unit, tag: u32) -> Option<(bool, &[Member])>
     let found = unit.tags.get(tag as usize)?;
     let members = found.members.as_ref()?;
     Some((found.union_, members.as_slice()))
+}
+
+/// The first tag without members that the type contains other than behind a pointer, or 0 for void.
+pub fn incomplete_part(unit: &Unit, ctype: &CType) -> Option<u32>
+    ensures { result ≡ first_incomplete (shape_of (map tag_tree unit.now.tags) (type_tree ctype.now)) }
+{
+    match ctype {
+        CType::Void => Some(0),
+        CType::Int(_) | CType::Ptr(_) => None,
+        CType::Array(element, _) => incomplete_part(unit, element),
+        CType::Tag(tag) => match declaration(unit, *tag) {
+            Some(_) => None,
+            None => Some(*tag),
+        },
+    }
+}
+
+/// The size and alignment of the type, or the first type in it that is too big. What is incomplete
+/// counts as nothing.
+#[cycle(extent)]
+pub fn type_extent(unit: &Unit, ctype: &CType) -> Result<Extent, u32>
+    ensures { IsExtent (shape_of (map tag_tree unit.now.tags) (type_tree ctype.now)) result }
+{
+    match ctype {
+        CType::Void => Ok(nothing()),
+        CType::Int(number) => Ok(scalar(number.size)),
+        CType::Ptr(_) => Ok(scalar(8)),
+        CType::Array(element, count) => repeated(type_extent(unit, element)?, *count),
+        CType::Tag(tag) => tag_extent(unit, *tag),
+    }
+}
+
+/// The same of a struct or union.
+#[cycle(extent)]
+fn tag_extent(unit: &Unit, tag: u32) -> Result<Extent, u32>
+    ensures { IsExtent (shape_of (map tag_tree unit.now.tags) (tagged tag)) result }
+{
+    let Some((union_, members)) = declaration(unit, tag) else {
+        return Ok(nothing());
+    };
+    let mut end = 0;
+    let mut align = 1;
+    for m in members {
+        let part = type_extent(unit, &m.ctype)?;
+        end = past(union_, end, part);
+        if align < part.align {
+            align = part.align;
+        }
+    }
+    whole(tag, end, align)
 }
