@@ -4,3 +4,5 @@ pub mod Complete
 pub mod Declared
 pub mod Nodes
 pub mod Runs
+pub mod Places
+pub mod FieldsMade

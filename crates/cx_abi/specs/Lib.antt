@@ -1,2 +1,3 @@
 pub mod Recursion
 pub mod Extents
+pub mod Fields

@@ -2,7 +2,13 @@
 #![tactic(auto)]
 
 mod extent;
+mod fault;
+mod field;
 mod law;
 mod measure;
+mod placing;
 
+pub use fault::LayoutFault;
+pub use field::{Field, Layout};
 pub use law::tags_are_by_members;
+pub use placing::{layout, offset_of, size_of};

@@ -1,4 +1,4 @@
-ghost use Rattle.std.specs.Prelude.{◌≡◌, ◌≤◌, ◌<◌, ◌+◌, ◌*◌, ◌^◌, max, map, Some, None, IfSome, IfNone, IfOk, IfErr, option_map};
+ghost use Rattle.std.specs.Prelude.{◌≡◌, [], ◌≤◌, ◌<◌, ◌+◌, ◌*◌, ◌^◌, max, map, Some, None, IfSome, IfNone, IfOk, IfErr, option_map};
 ghost use Rattle.cx_base.specs.Number.{HasSize};
 ghost use Rattle.cx_ctree.specs.Types.{type_tree, tag as tagged};
 ghost use Rattle.cx_ctree.specs.Decls.{tag_tree, member_tree};
@@ -42,7 +42,7 @@ fn rounded(align: u32, n: u128) -> u128
 }
 
 /// Where the next member of a struct or union stands, if those before it end at `from`.
-fn place(union_: bool, from: u128, part: Extent) -> u128
+pub fn place(union_: bool, from: u128, part: Extent) -> u128
     requires room { from < 2 ^ 126 }
     ensures value { result ≡ place union_ from (extent part) }
     ensures bound { result ≤ from + 7 }
@@ -51,7 +51,7 @@ fn place(union_: bool, from: u128, part: Extent) -> u128
 }
 
 /// Where the members of a struct or union end once the next one stands.
-fn past(union_: bool, from: u128, part: Extent) -> u128
+pub fn past(union_: bool, from: u128, part: Extent) -> u128
     requires room { from < 2 ^ 126 }
     ensures value { result ≡ past union_ from (extent part) }
     ensures bound { result ≤ from + (2 ^ 31 + 7) }
@@ -101,6 +101,7 @@ fn repeated(element: Extent, count: u32) -> Result<Extent, u32>
 #[tactic(auto, using(crate::proofs::Declared::declared_at, crate::proofs::Declared::complete_at, crate::proofs::Declared::fields_at, crate::proofs::Shapes::by_members))]
 pub fn declaration(unit: &Unit, tag: u32) -> Option<(bool, &[Member])>
     ensures none { IfNone result (shape_of (map tag_tree unit.now.tags) (tagged tag) ≡ undeclared tag) }
+    ensures empty { IfNone result (fields_of (map tag_tree unit.now.tags) (tagged tag) ≡ []) }
     ensures some { IfSome result (λ d. shape_of (map tag_tree unit.now.tags) (tagged tag) ≡ declared tag d.0 (shapes_of (map tag_tree unit.now.tags) (map member_tree d.1.now))) }
     ensures complete { IfSome result (λ d. first_incomplete_in (shapes_of (map tag_tree unit.now.tags) (map member_tree d.1.now)) ≡ None) }
     ensures fields { IfSome result (λ d. fields_of (map tag_tree unit.now.tags) (tagged tag) ≡ fields_from (map tag_tree unit.now.tags) d.0 0 (map member_tree d.1.now)) }
