@@ -1,5 +1,5 @@
 ghost use Rattle.std.specs.Prelude.{map};
-ghost use Rattle.cx_ctree.specs.Decls.{tag_tree};
+ghost use Rattle.cx_ctree.specs.Units.{tags_of};
 ghost use Rattle.cx_abi.specs.Recursion.{IsByMembers};
 
 use cx_ctree::Unit;
@@ -8,7 +8,7 @@ use cx_ctree::Unit;
 /// one another.
 #[tactic(auto, using(crate::proofs::Shapes::by_members))]
 pub fn tags_are_by_members(unit: &Unit)
-    ensures { IsByMembers (map tag_tree unit.now.tags) }
+    ensures { IsByMembers (tags_of unit.now) }
 {
     let _tags = &unit.tags;
 }

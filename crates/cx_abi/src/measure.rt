@@ -1,8 +1,9 @@
 ghost use Rattle.std.specs.Prelude.{◌≡◌, [], ◌≤◌, ◌<◌, ◌+◌, ◌*◌, ◌^◌, max, map, Some, None, IfSome, IfNone, IfOk, IfErr, option_map};
 ghost use Rattle.cx_base.specs.Number.{HasSize};
 ghost use Rattle.cx_ctree.specs.Types.{type_tree, tag as tagged};
-ghost use Rattle.cx_ctree.specs.Decls.{tag_tree, member_tree};
+ghost use Rattle.cx_ctree.specs.Decls.{member_tree};
 ghost use Rattle.cx_ctree.specs.Layouts.{shape_of, shapes_of, declared, undeclared, first_incomplete, first_incomplete_in, round_up, place, past, fields_of, fields_from, if_too_big};
+ghost use Rattle.cx_ctree.specs.Units.{tags_of};
 ghost use Rattle.cx_abi.specs.Extents.{extent, IsExtent};
 
 use crate::extent::{Extent, MOST_BYTES};
@@ -100,11 +101,13 @@ fn repeated(element: Extent, count: u32) -> Result<Extent, u32>
 /// Whether the tag is a union's, and its members; None where it has none.
 #[tactic(auto, using(crate::proofs::Declared::declared_at, crate::proofs::Declared::complete_at, crate::proofs::Declared::fields_at, crate::proofs::Shapes::by_members))]
 pub fn declaration(unit: &Unit, tag: u32) -> Option<(bool, &[Member])>
-    ensures none { IfNone result (shape_of (map tag_tree unit.now.tags) (tagged tag) ≡ undeclared tag) }
-    ensures empty { IfNone result (fields_of (map tag_tree unit.now.tags) (tagged tag) ≡ []) }
-    ensures some { IfSome result (λ d. shape_of (map tag_tree unit.now.tags) (tagged tag) ≡ declared tag d.0 (shapes_of (map tag_tree unit.now.tags) (map member_tree d.1.now))) }
-    ensures complete { IfSome result (λ d. first_incomplete_in (shapes_of (map tag_tree unit.now.tags) (map member_tree d.1.now)) ≡ None) }
-    ensures fields { IfSome result (λ d. fields_of (map tag_tree unit.now.tags) (tagged tag) ≡ fields_from (map tag_tree unit.now.tags) d.0 0 (map member_tree d.1.now)) }
+    ensures none { IfNone result (shape_of (tags_of unit.now) (tagged tag) ≡ undeclared tag) }
+    ensures empty { IfNone result (fields_of (tags_of unit.now) (tagged tag) ≡ []) }
+    ensures some { IfSome result (λ d. shape_of (tags_of unit.now) (tagged tag)
+        ≡ declared tag d.0 (shapes_of (tags_of unit.now) (map member_tree d.1.now))) }
+    ensures complete { IfSome result (λ d. first_incomplete_in (shapes_of (tags_of unit.now) (map member_tree d.1.now)) ≡ None) }
+    ensures fields { IfSome result (λ d. fields_of (tags_of unit.now) (tagged tag)
+        ≡ fields_from (tags_of unit.now) d.0 0 (map member_tree d.1.now)) }
 {
     let found = unit.tags.get(tag as usize)?;
     let members = found.members.as_ref()?;
@@ -113,7 +116,7 @@ pub fn declaration(unit: &Unit, tag: u32) -> Option<(bool, &[Member])>
 
 /// The first tag without members that the type contains other than behind a pointer, or 0 for void.
 pub fn incomplete_part(unit: &Unit, ctype: &CType) -> Option<u32>
-    ensures { result ≡ first_incomplete (shape_of (map tag_tree unit.now.tags) (type_tree ctype.now)) }
+    ensures { result ≡ first_incomplete (shape_of (tags_of unit.now) (type_tree ctype.now)) }
 {
     match ctype {
         CType::Void => Some(0),
@@ -130,7 +133,7 @@ pub fn incomplete_part(unit: &Unit, ctype: &CType) -> Option<u32>
 /// counts as nothing.
 #[cycle(extent)]
 pub fn type_extent(unit: &Unit, ctype: &CType) -> Result<Extent, u32>
-    ensures { IsExtent (shape_of (map tag_tree unit.now.tags) (type_tree ctype.now)) result }
+    ensures { IsExtent (shape_of (tags_of unit.now) (type_tree ctype.now)) result }
 {
     match ctype {
         CType::Void => Ok(nothing()),
@@ -144,7 +147,7 @@ pub fn type_extent(unit: &Unit, ctype: &CType) -> Result<Extent, u32>
 /// The same of a struct or union.
 #[cycle(extent)]
 fn tag_extent(unit: &Unit, tag: u32) -> Result<Extent, u32>
-    ensures { IsExtent (shape_of (map tag_tree unit.now.tags) (tagged tag)) result }
+    ensures { IsExtent (shape_of (tags_of unit.now) (tagged tag)) result }
 {
     let Some((union_, members)) = declaration(unit, tag) else {
         return Ok(nothing());

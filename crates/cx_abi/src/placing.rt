@@ -1,7 +1,7 @@
 ghost use Rattle.std.specs.Prelude.{◌≡◌, ◌==◌, ℕ, map, find, option_map, Some, None, IfOk, IfErr};
 ghost use Rattle.cx_ctree.specs.Types.{type_tree, tag as tagged};
-ghost use Rattle.cx_ctree.specs.Decls.{tag_tree};
-ghost use Rattle.cx_ctree.specs.Layouts.{shape_of, extent_of, first_incomplete, first_too_big, fields_of, size_of, offset_of, HasLayout};
+ghost use Rattle.cx_ctree.specs.Layouts.{shape_of, extent_in, first_too_big, fields_of, size_of, offset_of, HasLayout, IsIncomplete, IsTooBig};
+ghost use Rattle.cx_ctree.specs.Units.{tags_of};
 ghost use Rattle.cx_abi.specs.Fields.{field_tree};
 ghost use Rattle.cx_abi.specs.declared.fault.LayoutFault.TheVariants as fault;
 
@@ -14,12 +14,14 @@ use std::alloc::Global;
 
 /// The layout of a type (System V AMD64 ABI, 3.1.2).
 pub fn layout(alloc: Global, unit: &Unit, ctype: &CType) -> Result<Layout, LayoutFault>
-    ensures ok { IfOk result (λ _. HasLayout (map tag_tree unit.now.tags) (type_tree ctype.now)) }
-    ensures size { IfOk result (λ l. l.size ≡ (extent_of (shape_of (map tag_tree unit.now.tags) (type_tree ctype.now))).size) }
-    ensures align { IfOk result (λ l. l.align ≡ (extent_of (shape_of (map tag_tree unit.now.tags) (type_tree ctype.now))).align) }
-    ensures fields { IfOk result (λ l. map field_tree l.fields ≡ fields_of (map tag_tree unit.now.tags) (type_tree ctype.now)) }
-    ensures incomplete { IfErr result (λ e. (k : ℕ) → e ≡ fault.Incomplete k → first_incomplete (shape_of (map tag_tree unit.now.tags) (type_tree ctype.now)) ≡ Some k) }
-    ensures too_big { IfErr result (λ e. (k : ℕ) → e ≡ fault.TooBig k → (first_incomplete (shape_of (map tag_tree unit.now.tags) (type_tree ctype.now)) ≡ None) × (first_too_big (shape_of (map tag_tree unit.now.tags) (type_tree ctype.now)) ≡ Some k)) }
+    ensures ok { IfOk result (λ _. HasLayout (tags_of unit.now) (type_tree ctype.now)) }
+    ensures size { IfOk result (λ l. l.size ≡ (extent_in (tags_of unit.now) (type_tree ctype.now)).size) }
+    ensures align { IfOk result (λ l. l.align ≡ (extent_in (tags_of unit.now) (type_tree ctype.now)).align) }
+    ensures fields { IfOk result (λ l. map field_tree l.fields ≡ fields_of (tags_of unit.now) (type_tree ctype.now)) }
+    ensures incomplete { IfErr result (λ e. (k : ℕ) → e ≡ fault.Incomplete k
+        → IsIncomplete (tags_of unit.now) (type_tree ctype.now) k) }
+    ensures too_big { IfErr result (λ e. (k : ℕ) → e ≡ fault.TooBig k
+        → IsTooBig (tags_of unit.now) (type_tree ctype.now) k) }
 {
     if let Some(tag) = incomplete_part(unit, ctype) {
         return Err(LayoutFault::Incomplete(tag));
@@ -36,8 +38,8 @@ pub fn layout(alloc: Global, unit: &Unit, ctype: &CType) -> Result<Layout, Layou
 
 /// The members of a struct or union with their places; none for another type.
 fn fields(alloc: Global, unit: &Unit, ctype: &CType) -> Result<List<Field>, LayoutFault>
-    requires { first_too_big (shape_of (map tag_tree unit.now.tags) (type_tree ctype.now)) ≡ None }
-    ensures ok { IfOk result (λ fs. map field_tree fs ≡ fields_of (map tag_tree unit.now.tags) (type_tree ctype.now)) }
+    requires { first_too_big (shape_of (tags_of unit.now) (type_tree ctype.now)) ≡ None }
+    ensures ok { IfOk result (λ fs. map field_tree fs ≡ fields_of (tags_of unit.now) (type_tree ctype.now)) }
     ensures err { IfErr result (λ e. e ≡ fault.NoMemory) }
 {
     match ctype {
@@ -48,8 +50,8 @@ fn fields(alloc: Global, unit: &Unit, ctype: &CType) -> Result<List<Field>, Layo
 
 /// The same for a struct or union.
 fn tag_fields(alloc: Global, unit: &Unit, tag: u32) -> Result<List<Field>, LayoutFault>
-    requires { first_too_big (shape_of (map tag_tree unit.now.tags) (tagged tag)) ≡ None }
-    ensures ok { IfOk result (λ fs. map field_tree fs ≡ fields_of (map tag_tree unit.now.tags) (tagged tag)) }
+    requires { first_too_big (shape_of (tags_of unit.now) (tagged tag)) ≡ None }
+    ensures ok { IfOk result (λ fs. map field_tree fs ≡ fields_of (tags_of unit.now) (tagged tag)) }
     ensures err { IfErr result (λ e. e ≡ fault.NoMemory) }
 {
     let mut fields = List::new(alloc);
@@ -76,7 +78,7 @@ fn tag_fields(alloc: Global, unit: &Unit, tag: u32) -> Result<List<Field>, Layou
 
 /// The size of a type in bytes; None exactly where `layout` answers `Incomplete` or `TooBig`.
 pub fn size_of(unit: &Unit, ctype: &CType) -> Option<u64>
-    ensures { result ≡ size_of (map tag_tree unit.now.tags) (type_tree ctype.now) }
+    ensures { result ≡ size_of (tags_of unit.now) (type_tree ctype.now) }
 {
     if incomplete_part(unit, ctype).is_some() {
         return None;
@@ -90,7 +92,7 @@ pub fn size_of(unit: &Unit, ctype: &CType) -> Option<u64>
 /// The place of the tag's member of this name, in bytes from the first byte of the struct or union;
 /// None exactly where `layout` answers `Incomplete` or `TooBig`, or there is no such member.
 pub fn offset_of(unit: &Unit, tag: u32, name: u32) -> Option<u64>
-    ensures { result ≡ offset_of (map tag_tree unit.now.tags) tag name }
+    ensures { result ≡ offset_of (tags_of unit.now) tag name }
 {
     let ctype = CType::Tag(tag);
     if size_of(unit, &ctype).is_none() {
@@ -101,8 +103,9 @@ pub fn offset_of(unit: &Unit, tag: u32, name: u32) -> Option<u64>
 
 /// The same where the tag has a layout.
 fn member_place(unit: &Unit, tag: u32, name: u32) -> Option<u64>
-    requires { first_too_big (shape_of (map tag_tree unit.now.tags) (tagged tag)) ≡ None }
-    ensures { result ≡ option_map (λ f. f.offset) (find (λ f. f.name == name) (fields_of (map tag_tree unit.now.tags) (tagged tag))) }
+    requires { first_too_big (shape_of (tags_of unit.now) (tagged tag)) ≡ None }
+    ensures { result ≡ option_map (λ f. f.offset)
+        (find (λ f. f.name == name) (fields_of (tags_of unit.now) (tagged tag))) }
 {
     let (union_, members) = declaration(unit, tag)?;
     let mut end = 0;

@@ -126,10 +126,23 @@ abbrev mutual
   first_too_big_in no_member = None
   first_too_big_in (also_member s ss) = or_else (first_too_big s) (first_too_big_in ss)
 
+-- the size and alignment of a type
+abbrev pub extent_in : List TagTree → TypeTree → Extent
+extent_in tags t = extent_of (shape_of tags t)
+
 -- the type has a layout
 pub record HasLayout (tags : List TagTree) (t : TypeTree) : Type 0 where
   pub complete : first_incomplete (shape_of tags t) ≡ None
   pub fits : first_too_big (shape_of tags t) ≡ None
+
+-- the type has no layout, since it is void, with k = 0, or the tag k in it is the first without members
+abbrev pub IsIncomplete : List TagTree → TypeTree → ℕ → Type 0
+IsIncomplete tags t k = first_incomplete (shape_of tags t) ≡ Some k
+
+-- the type is complete and has no layout, since the tag k in it, or an array, with k = 0, is the first that is too big
+pub record IsTooBig (tags : List TagTree) (t : TypeTree) (k : ℕ) : Type 0 where
+  pub complete : first_incomplete (shape_of tags t) ≡ None
+  pub first : first_too_big (shape_of tags t) ≡ Some k
 
 -- ---- layouts
 
@@ -146,8 +159,8 @@ pub record FieldTree : Type 0 where
 abbrev pub fields_from : List TagTree → (union_ : Bool) → ℕ → List MemberTree → List FieldTree
 fields_from tags u from [] = []
 fields_from tags u from (m ∷ ms) =
-    record { name = m.name; offset = place u from (extent_of (shape_of tags m.ctype)); ctype = m.ctype }
-    ∷ fields_from tags u (past u from (extent_of (shape_of tags m.ctype))) ms
+    record { name = m.name; offset = place u from (extent_in tags m.ctype); ctype = m.ctype }
+    ∷ fields_from tags u (past u from (extent_in tags m.ctype)) ms
 
 abbrev pub members_fields : List TagTree → (union_ : Bool) → Option (List MemberTree) → List FieldTree
 members_fields tags u None = []
@@ -172,7 +185,7 @@ if_laid_out s value = unless (first_incomplete s) (unless (first_too_big s) valu
 
 -- the size of a type that has a layout
 abbrev pub size_of : List TagTree → TypeTree → Option ℕ
-size_of tags t = if_laid_out (shape_of tags t) (Some (extent_of (shape_of tags t)).size)
+size_of tags t = if_laid_out (shape_of tags t) (Some (extent_in tags t).size)
 
 -- the place of the member of this name of the tag k, where it has a layout and such a member
 abbrev pub offset_of : List TagTree → ℕ → (name : ℕ) → Option ℕ

@@ -5,3 +5,4 @@ pub mod Decls
 pub mod Path
 pub mod Tags
 pub mod Layouts
+pub mod Units
