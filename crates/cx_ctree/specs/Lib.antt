@@ -6,3 +6,4 @@ pub mod Path
 pub mod Tags
 pub mod Layouts
 pub mod Units
+pub mod Conversions
