@@ -1,5 +1,10 @@
 pub mod Adding
+pub mod Digits
+pub mod Finding
 pub mod Places
+pub mod Positions
 pub mod Sizes
+pub mod Storing
 pub mod Texts
 pub mod Wrapping
+pub mod Writing

@@ -7,25 +7,25 @@ use Rattle.std.specs.Int.{int_rem_euclid}
 use Rattle.cx_base.specs.Number.{HasSize, InRange, Congruent, wrapped, half_of}
 use Rattle.cx_base.proofs.Sizes.{half_positive, two_halves}
 
-neg-mul : (q m : ℕ) → neg_ℤ (pos q) *ℤ pos m ≡ neg_ℤ (pos (q * m))
+pub neg-mul : (q m : ℕ) → neg_ℤ (pos q) *ℤ pos m ≡ neg_ℤ (pos (q * m))
 neg-mul zero m = zero-*ℤ (pos m) ∙ ap (λ n. neg_ℤ (pos n)) (let e : 0 ≡ 0 * m = omega arith in e)
 neg-mul (suc q) m = negsuc-*ℤ-pos q m
 
 negative_rest : (a q r m n : ℕ) → q + r ≡ a → r < m → n ≡ q + m → pos (m - 1 - r) ≡ negsuc a +ℤ pos n
 negative_rest a q r m n e b f = omega (arith, ints)
 
-rest_congruent : (v : ℤ) (m : ℕ) → 0 < m → (k : ℤ) × (int_rem_euclid v (pos m) ≡ v +ℤ k *ℤ pos m)
+pub rest_congruent : (v : ℤ) (m : ℕ) → 0 < m → (k : ℤ) × (int_rem_euclid v (pos m) ≡ v +ℤ k *ℤ pos m)
 rest_congruent (pos a) m h =
     (neg_ℤ (pos (a / m)), rw (neg-mul (a / m) m) (let e = div-add-mod' a m in omega (arith, ints, e)))
 rest_congruent (negsuc a) m h =
     (pos (a / m + 1), negative_rest a (a / m * m) (a % m) m ((a / m + 1) * m) (div-add-mod' a m) (mod_below a m h) (grind arith))
 
-rest_below : (v : ℤ) (m : ℕ) → 0 < m → (pos 0 ≤ℤ int_rem_euclid v (pos m)) × (int_rem_euclid v (pos m) <ℤ pos m)
+pub rest_below : (v : ℤ) (m : ℕ) → 0 < m → (pos 0 ≤ℤ int_rem_euclid v (pos m)) × (int_rem_euclid v (pos m) <ℤ pos m)
 rest_below (pos a) m h = let b = mod_below a m h in (omega (arith, ints), omega (arith, ints, b))
 rest_below (negsuc a) m h = let b = mod_below a m h in (omega (arith, ints), omega (arith, ints, b))
 
 -- one more turn of the modulus
-less_one : (r v k : ℤ) (m : ℕ) → r ≡ v +ℤ k *ℤ pos m → r -ℤ pos m ≡ v +ℤ (k -ℤ pos 1) *ℤ pos m
+pub less_one : (r v k : ℤ) (m : ℕ) → r ≡ v +ℤ k *ℤ pos m → r -ℤ pos m ≡ v +ℤ (k -ℤ pos 1) *ℤ pos m
 less_one r v k m e = rw (sub_one-mul k m) (omega (arith, ints, e))
   where
     sub_one-mul : (k : ℤ) (m : ℕ) → (k -ℤ pos 1) *ℤ pos m ≡ k *ℤ pos m -ℤ pos m
@@ -65,7 +65,7 @@ wrapped-InRange size true v h =
     range_by (half_of size) (int_rem_euclid v (pos (2 * half_of size))) b.0 b.1 (int_le (pos (half_of size)) (int_rem_euclid v (pos (2 * half_of size)))) refl
 wrapped-InRange size false v h = let p = half_positive size h in rest_below v (2 * half_of size) (omega arith)
 
-dist : (a c b : ℤ) → (a +ℤ b) *ℤ c ≡ a *ℤ c +ℤ b *ℤ c
+pub dist : (a c b : ℤ) → (a +ℤ b) *ℤ c ≡ a *ℤ c +ℤ b *ℤ c
 dist a c = ℤ_ind (λ b. (a +ℤ b) *ℤ c ≡ a *ℤ c +ℤ b *ℤ c)
     (ap (λ x. x *ℤ c) (+ℤ_idr a) ∙ sym (ap (λ x. a *ℤ c +ℤ x) (zero-*ℤ c) ∙ +ℤ_idr (a *ℤ c)))
     (λ n h. ap (λ x. x *ℤ c) (sym (+ℤ_assoc a (pos n) (pos 1)) ∙ +ℤ_one (a +ℤ pos n)) ∙ suc_ℤ-*ℤ (a +ℤ pos n) c ∙ ap (λ x. x +ℤ c) h ∙ +ℤ_assoc (a *ℤ c) (pos n *ℤ c) c
@@ -100,5 +100,10 @@ only_wrapped size signed v u h r c =
     let d = wrapped-Congruent size signed v h in
     let e : u ≡ w +ℤ (c.0 -ℤ d.0) *ℤ pos (2 * half_of size) = subst (λ (m : ℕ). u ≡ w +ℤ (c.0 -ℤ d.0) *ℤ pos m) (two_halves size h) (apart u w v c.0 d.0 (2 ^ (8 * size)) c.1 d.1) in
     close u w (c.0 -ℤ d.0) (2 * half_of size) e (near size signed u w r s) (near size signed w u s r)
+
+pub congruent_chain : (size : ℕ) (a b c : ℤ) → Congruent size a b → Congruent size b c → Congruent size a c
+congruent_chain size a b c h g =
+    let m : ℤ = pos (2 ^ (8 * size)) in
+    (g.0 +ℤ h.0, h.1 ∙ ap (λ x. x +ℤ h.0 *ℤ m) g.1 ∙ +ℤ_assoc c (g.0 *ℤ m) (h.0 *ℤ m) ∙ ap (λ x. c +ℤ x) (sym (dist g.0 m h.0)))
 
 pub ruleset wrap_laws = (wrapped-InRange, wrapped-Congruent, only_wrapped)

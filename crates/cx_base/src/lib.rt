@@ -1,12 +1,14 @@
-//! What every crate of Codex stands on: numbers of C, spans, lists and memory.
+//! What every crate of Codex stands on: integer types of C, spans and places of a text, tokens, lists, names and memory.
 #![tactic(auto)]
 
+mod bytes;
 mod list;
 mod memory;
 mod names;
 mod number;
 mod place;
 mod span;
+mod token;
 
 pub use list::{List, NoMemory};
 pub use memory::{AddFault, Memory, Region};
@@ -14,3 +16,4 @@ pub use names::Names;
 pub use number::{CInt, fits, wrap};
 pub use place::place_of;
 pub use span::Span;
+pub use token::{Token, TokenKind};

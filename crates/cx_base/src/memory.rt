@@ -1,10 +1,12 @@
-ghost use Rattle.std.specs.Prelude.{ℕ, ℤ, Bool, ◌≡◌, ◌≢◌, ◌<◌, ◌≤◌, ◌+◌, ◌-◌, ◌*◌, ◌^◌, ◌↔◌, ◌⊎◌, pos, [], ◌∷◌, ◌++◌, length, None, Some, IfSome, IfNone, IsSomeAnd, IfOk, OnOk, OnErr, IfErr, slice_get, slice_set, option_copied, nat_abs, IsTrue};
+ghost use Rattle.std.specs.Prelude.{All, ℕ, ℤ, Bool, ◌≡◌, ◌≢◌, ◌<◌, ◌≤◌, ◌+◌, ◌-◌, ◌*◌, ◌^◌, ◌↔◌, ◌⊎◌, pos, [], ◌∷◌, ◌++◌, length, None, Some, IfSome, IfNone, IsSomeAnd, IfOk, OnOk, OnErr, IfErr, slice_get, slice_set, option_copied, nat_abs, IsTrue};
 ghost use Rattle.cx_base.specs.declared.memory.AddFault.TheVariants.{NoMemory as OutOfMemory};
 ghost use Rattle.cx_base.specs.Bytes.{number_of};
 ghost use Rattle.cx_base.specs.Memory.{Holds, InRange, past_of, size_of, meets, first_met, loaded, stored, low_bytes};
 ghost use Rattle.cx_base.specs.Number.{wrapped};
 
+use crate::bytes::{number_of, put_number};
 use crate::list::{List, NoMemory};
+use crate::number::{CInt, low_part, wrap};
 use std::alloc::{AllocFailed, Global};
 use std::marker::Model;
 use thiserror::Error;
@@ -73,6 +75,14 @@ fn holds(r: &Region, a: u64, k: u8) -> bool
     r.base <= a && a - r.base <= size && u64::from(k) <= size - (a - r.base)
 }
 
+/// The place of the first region that holds the `k` bytes from the address `a` on.
+fn first_holder(regions: &[Region], a: u64, k: u8) -> Option<usize>
+    ensures some { IfSome result (λ i. IsSomeAnd (slice_get regions.now i) (λ r. Holds r a k)) }
+    ensures none { IfNone result (All (λ r. Holds r a k → ⊥) regions.now) }
+{
+    regions.iter().position(|r| holds(r, a, k))
+}
+
 /// Whether the region and its arguments are in range.
 fn is_in_range(r: &Region) -> bool
     ensures { IsTrue result ↔ InRange r.now }
@@ -106,6 +116,28 @@ fn first_met(regions: &[Region], r: &Region) -> Option<usize>
     ensures { result ≡ first_met r.now regions.now }
 {
     regions.iter().position(|s| meets(r, s))
+}
+
+/// The number of the type that the region has at the offset.
+fn load(r: &Region, off: u64, t: CInt) -> i128
+    requires range { InRange r.now }
+    requires inside { off + t.size ≤ size_of r.now }
+    ensures { result ≡ loaded r.now off t.size t.signed }
+{
+    let from = off as usize;
+    let to = from + usize::from(t.size);
+    wrap(t, i128::from(number_of(&r.bytes.as_slice()[from..to])))
+}
+
+/// Puts the low bytes of the number into the region at the offset.
+fn store(r: &mut Region, off: u64, t: CInt, v: i128)
+    requires range { InRange r.old }
+    requires inside { off + t.size ≤ size_of r.old }
+    ensures { r.new ≡ stored r.old off t.size v }
+{
+    let from = off as usize;
+    let to = from + usize::from(t.size);
+    put_number(&mut r.bytes, from, to, low_part(t, v));
 }
 
 /// The same region once more.
@@ -156,10 +188,34 @@ impl Memory {
     pub fn find(&self, a: u64, k: u8) -> Option<u32>
         requires { HasSize k }
         ensures some { IfSome result (λ i. IsSomeAnd (slice_get self.now i) (λ r. Holds r a k)) }
+        ensures only { IfSome result (λ i. (j : ℕ) → IsSomeAnd (slice_get self.now j) (λ r. Holds r a k) → j ≡ i) }
         ensures none { IfNone result (All (λ r. Holds r a k → ⊥) self.now) }
     {
-        let i = self.regions.iter().position(|r| holds(r, a, k))?;
+        let i = first_holder(self.regions.as_slice(), a, k)?;
         Some(i as u32)
+    }
+
+    /// The number of the type `t` that region `r` has at the offset `off`, in bytes from its base: the
+    /// number that its bytes write, the least significant first (System V AMD64 ABI, 3.1.1), with the
+    /// type's sign.
+    pub fn read(&self, r: u32, off: u64, t: CInt) -> i128
+        requires { IsSomeAnd (slice_get self.now r) (λ region. off + t.size ≤ size_of region) }
+        ensures { IfSome (slice_get self.now r) (λ region. result ≡ loaded region off t.size t.signed) }
+    {
+        load(&self.regions[r as usize], off, t)
+    }
+
+    /// Stores the low bytes of `v`, as many as the type `t` has, in region `r` at the offset `off`, in
+    /// bytes from its base. A read there gives `v` wrapped to its type, and a read of other bytes, of
+    /// this region or of another, what it gave before.
+    pub fn write(&mut self, r: u32, off: u64, t: CInt, v: i128)
+        requires { IsSomeAnd (slice_get self.old r) (λ region. off + t.size ≤ size_of region) }
+        ensures new { IfSome (slice_get self.old r) (λ region. self.new ≡ slice_set self.old r (stored region off t.size v)) }
+        ensures read_back { IsSomeAnd (slice_get self.new r) (λ region. (signed : Bool) → loaded region off t.size signed ≡ wrapped t.size signed v) }
+        ensures read_apart { IfSome (slice_get self.old r) (λ before. IsSomeAnd (slice_get self.new r) (λ after. (at size : ℕ) (signed : Bool) → (at + size ≤ off) ⊎ (off + t.size ≤ at) → loaded after at size signed ≡ loaded before at size signed)) }
+        ensures others { (i : ℕ) → i ≢ r → slice_get self.new i ≡ slice_get self.old i }
+    {
+        store(&mut self.regions[r as usize], off, t, v);
     }
 
     /// Adds the region at the end. A region that is out of range, or else meets another, or else

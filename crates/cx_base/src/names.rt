@@ -1,4 +1,4 @@
-ghost use Rattle.std.specs.Prelude.{◌≡◌, ◌<◌, ◌-◌, ◌^◌, [], length, IfOk, OnOk, OnErr, option_map, slice_get, position};
+ghost use Rattle.std.specs.Prelude.{◌≡◌, ◌<◌, ◌≤◌, ◌+◌, ◌-◌, ◌^◌, [], length, IfOk, OnOk, OnErr, option_map, slice_get, position, ◌≢◌, IfSome, IfNone, Some, All};
 ghost use Rattle.std.specs.Str.{bytes_eq};
 ghost use Rattle.std.specs.List.{position_or_len};
 ghost use Rattle.cx_base.specs.Names.{Numbering, numbered};
@@ -51,16 +51,17 @@ impl Names {
     #[tactic(auto, using(crate::proofs::Texts::position_map))]
     pub fn number_of(&self, text: &[u8]) -> Option<u32>
         ensures number { result ≡ position (bytes_eq text.now) self.now }
+        ensures found { IfSome result (λ n. slice_get self.now n ≡ Some text.now) }
+        ensures absent { IfNone result (All (λ t. t ≢ text.now) self.now) }
         ensures numbering { Numbering self.now }
     {
         let n = self.texts.get_index_of(text)?;
         Some(n as u32)
     }
 
-    /// The number of the text: the one that it has, or else the next one, which it has from now on.
-    /// No other text gets or loses a number. After `NoMemory` nothing has changed.
+    /// Numbers the text where it has no number yet.
     #[tactic(auto, using(crate::proofs::Texts::place_map, crate::proofs::Texts::numbered_map))]
-    pub fn number(&mut self, text: &[u8]) -> Result<u32, NoMemory>
+    fn insert(&mut self, text: &[u8]) -> Result<u32, NoMemory>
         requires { length self.old < 2 ^ 32 - 1 }
         ensures value { IfOk result (λ n. n ≡ position_or_len (bytes_eq text.now) self.old) }
         ensures new { OnOk result (self.new ≡ numbered self.old text.now) }
@@ -68,5 +69,18 @@ impl Names {
     {
         let (n, _) = self.texts.insert_full(Vec::from_slice(self.alloc, text)?)?;
         Ok(n as u32)
+    }
+
+    /// The number of the text: the one that it has, or else the next one, which it has from now on.
+    /// No other text gets or loses a number. After `NoMemory` nothing has changed.
+    pub fn number(&mut self, text: &[u8]) -> Result<u32, NoMemory>
+        requires { length self.old < 2 ^ 32 - 1 }
+        ensures value { IfOk result (λ n. n ≡ position_or_len (bytes_eq text.now) self.old) }
+        ensures new { OnOk result (self.new ≡ numbered self.old text.now) }
+        ensures stands { IfOk result (λ n. slice_get self.new n ≡ Some text.now) }
+        ensures grows { length self.new ≤ length self.old + 1 }
+        ensures err { OnErr result (self.new ≡ self.old) }
+    {
+        self.insert(text)
     }
 }

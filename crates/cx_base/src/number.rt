@@ -1,4 +1,5 @@
-ghost use Rattle.std.specs.Prelude.{ℤ, ◌≡◌, ◌↔◌, ◌*◌, ◌≤ℤ◌, ◌<ℤ◌, pos, IsTrue};
+ghost use Rattle.std.specs.Int.{int_rem_euclid};
+ghost use Rattle.std.specs.Prelude.{ℤ, ◌≡◌, ◌↔◌, ◌*◌, ◌^◌, nat_abs, ◌≤ℤ◌, ◌<ℤ◌, pos, IsTrue};
 ghost use Rattle.cx_base.specs.Number.{HasSize, InRange, Congruent, wrapped, half_of};
 
 /// An integer type of C as the System V AMD64 ABI has it (3.1.2): its size in bytes, which is 1, 2,
@@ -26,8 +27,10 @@ fn half(t: CInt) -> i128
 }
 
 /// The number of values of the type.
+#[tactic(auto, using(crate::proofs::Sizes::two_halves))]
 fn modulus(t: CInt) -> i128
     ensures value { result ≡ pos (2 * half_of t.size) }
+    ensures power { result ≡ pos (2 ^ (8 * t.size)) }
     ensures positive { pos 0 <ℤ result }
     ensures small { result ≤ℤ pos 18446744073709551616 }
 {
@@ -46,7 +49,14 @@ pub fn fits(t: CInt, v: i128) -> bool
     }
 }
 
-/// The number of the type's range that `wrapped` computes.
+/// The number that the low bytes of `v` write, as many as the type has.
+pub(crate) fn low_part(t: CInt, v: i128) -> u64
+    ensures { result ≡ nat_abs (int_rem_euclid v (pos (2 ^ (8 * t.size)))) }
+{
+    v.rem_euclid(modulus(t)) as u64
+}
+
+/// The number of the type's range that differs from `v` by a multiple of the number of its values.
 fn wrapped(t: CInt, v: i128) -> i128
     ensures { result ≡ wrapped t.size t.signed v }
 {

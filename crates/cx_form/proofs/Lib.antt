@@ -8,3 +8,4 @@ pub mod CParts
 pub mod TypeParts
 pub mod RulesHold
 pub mod Whole
+pub mod Examples

@@ -9,7 +9,12 @@
 -- with the types
 --     region vec = struct vec { len: any8; next: ptr vec; };
 --     fn step(ptr vec, any, any) -> any;
-use Rattle.std.proofs.Common.{◌≡◌, ℕ, ◌≤◌, List, [], ◌∷◌, map, Option, Some, None, codes, refl, option_map, lit≤}
+use Rattle.std.specs.List.{list_all}
+use Rattle.std.proofs.lemmas.Bool.Decides.{nat_tests}
+use Rattle.cx_base.specs.Bytes.{AreBytes}
+use Rattle.std.proofs.lemmas.List.Elements.{All-nil, All-cons}
+use Rattle.cx_base.specs.Memory.{InRange, IsArgument}
+use Rattle.std.proofs.Common.{◌<◌, nat_lt, true, lit<, arith, ◌≡◌, ℕ, ◌≤◌, List, [], ◌∷◌, map, Option, Some, None, codes, refl, option_map, lit≤}
 use Rattle.cx_base.specs.declared.memory.Region.{Region}
 use Rattle.cx_form.specs.declared.tree.Word.{Word}
 use Rattle.cx_form.specs.declared.tree.Struct.{Struct}
@@ -19,11 +24,15 @@ use Rattle.cx_form.specs.declared.tree.Statement.TheVariants.{Load, Store}
 use Rattle.cx_form.specs.declared.tree.Function.{Function}
 use Rattle.cx_form.specs.declared.tree.CFile.{CFile}
 use Rattle.cx_form.specs.declared.tree.Argument.TheVariants as argument
+use Rattle.cx_form.specs.declared.tree.Cell.{Cell}
+use Rattle.cx_form.specs.declared.tree.RegionType.{RegionType}
 use Rattle.cx_form.specs.declared.tree.FunctionType.{FunctionType}
 use Rattle.cx_form.specs.declared.tree.TypeFile.{TypeFile}
 use Rattle.cx_sorts.specs.Layout.{offset_of, struct_size}
-use Rattle.cx_sorts.specs.TypedMemory.{number_at}
+use Rattle.cx_sorts.specs.TypedMemory.{number_at, extent, HoldsCell, HoldsType, Typed}
 use Rattle.cx_sorts.specs.Meaning.{End, Fault, Return, run_of, with_number}
+use Rattle.cx_sorts.specs.declared.verdict.Access.{Access}
+use Rattle.cx_sorts.specs.Safe.{Safe}
 use Rattle.cx_sorts.specs.Rules.{verdict_of}
 
 -- a word, with its first byte in the file and the first past it
@@ -71,20 +80,17 @@ file body = record { structs = vec ∷ []; function = Some (step body) }
 abbrev step_type : FunctionType
 step_type = record { name = word (codes "step"); arguments = argument.Pointer (word (codes "vec")) ∷ argument.Any ∷ argument.Any ∷ []; result = Some argument.Any }
 
+abbrev len_cell : Cell
+len_cell = record { member = word (codes "len"); holds = argument.Any }
+
+abbrev next_cell : Cell
+next_cell = record { member = word (codes "next"); holds = argument.Pointer (word (codes "vec")) }
+
+abbrev vec_type : RegionType
+vec_type = record { name = word (codes "vec"); tag = word (codes "vec"); cells = len_cell ∷ next_cell ∷ [] }
+
 abbrev types : TypeFile
-types = record {
-  regions =
-      record {
-        name = word (codes "vec");
-        tag = word (codes "vec");
-        cells =
-            record { member = word (codes "len"); holds = argument.Any }
-            ∷ record { member = word (codes "next"); holds = argument.Pointer (word (codes "vec")) }
-            ∷ [];
-      }
-      ∷ [];
-  function = Some step_type;
-}
+types = record { regions = vec_type ∷ []; function = Some step_type }
 
 -- first byte, first byte past, and place of the region type
 abbrev lines : List Statement → List (ℕ × ℕ × ℕ)
@@ -152,3 +158,48 @@ fault_of (Return v memory) = None
 -- a member past the region's last byte is a fault
 faults : fault_of (run_of (file (load_len ∷ [])) (step (load_len ∷ [])) (4096 ∷ 4105 ∷ 7 ∷ []) (loop ∷ [])).end ≡ Some (156, 162)
 faults = refl
+
+small_bytes : (bs : List ℕ) → list_all (λ b. nat_lt b 256) bs ≡ true → AreBytes bs
+small_bytes [] e = All-nil (λ b. b < 256)
+small_bytes (b ∷ bs) e = All-cons (λ b. b < 256) b bs (grind (arith, nat_tests)) (small_bytes bs (grind (arith, nat_tests)))
+
+-- this memory is typed: its one region holds its type, and its next is its own base
+is_loop_typed : (body : List Statement) → Typed (file body) types (loop ∷ [])
+unfolding number_at
+is_loop_typed body = record {
+  valid = record {
+    ranges = All-cons InRange loop [] (record { low = lit≤ tt; high = lit≤ tt; args = All-nil IsArgument }) (All-nil InRange);
+    apart = λ i j d less few. absurd (omega arith);
+    few = lit< tt;
+  };
+  holds =
+      let Held : Region → Type 0 = HoldsType (file body) types (extent loop ∷ []) in
+      All-cons Held loop []
+      (record {
+        type = vec_type;
+        known = refl;
+        struct = vec;
+        tagged = refl;
+        args = refl;
+        size = refl;
+        bytes = small_bytes loop.bytes refl;
+        cells =
+            let HoldsOf : Cell → Type 0 = HoldsCell types (extent loop ∷ []) vec loop.bytes in
+            All-cons HoldsOf len_cell (next_cell ∷ [])
+            (record { offset = 0; of_member = refl; holds = tt })
+            (All-cons HoldsOf next_cell []
+            (record { offset = 8; of_member = refl; holds = record { region = extent loop; there = (0, lit< tt, refl); base = refl; named = refl } })
+            (All-nil HoldsOf));
+      })
+      (All-nil Held);
+}
+
+-- the arguments p = 4096, q = 0 and x = 7 are of their types, and with them the load through q is a fault: the body without
+-- the first line is not safe, whatever table it has
+is_unsafe : (table : List Access) → Safe (file (store_len ∷ load_len ∷ [])) types (step (store_len ∷ load_len ∷ [])) step_type table → ⊥
+is_unsafe table safe =
+    (safe (loop ∷ []) (4096 ∷ 0 ∷ 7 ∷ []) (is_loop_typed (store_len ∷ load_len ∷ []))
+    (record {
+      in_type = (lit< tt, (lit< tt, (lit< tt, tt)));
+      hold = (record { region = extent loop; there = (0, lit< tt, refl); base = refl; named = refl }, (tt, (tt, tt)));
+    })).1

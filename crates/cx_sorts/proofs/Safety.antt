@@ -1,7 +1,6 @@
 -- What the rules accept is safe.
 use Rattle.std.proofs.Common.{◌++◌, ◌≡◌, ℕ, zero, suc, ◌<◌, ◌^◌, List, [], ◌∷◌, get_or, map, Bool, true, false, Option, Some, None, Result, Ok, Err, option_and_then, IfSome, refl, sym, ap, ap₂, ◌∙◌, subst, arith, if◌then◌else◌, append-nil}
 use Rattle.std.specs.List.{All, AllZip}
-use Rattle.std.specs.Option.{option_map_or}
 use Rattle.std.proofs.lemmas.List.Elements.{All-cons, All-nil, All-head, All-tail}
 use Rattle.cx_base.specs.declared.memory.Region.{Region}
 use Rattle.cx_base.specs.declared.span.Span.{Span}
@@ -22,7 +21,7 @@ use Rattle.cx_sorts.specs.declared.verdict.Access.{Access}
 use Rattle.cx_sorts.specs.declared.verdict.Verdict.{Verdict}
 use Rattle.cx_sorts.specs.declared.verdict.Sort.{Sort}
 use Rattle.cx_sorts.specs.TypedMemory.{Extent, layout, Extends, Holds}
-use Rattle.cx_sorts.specs.Meaning.{State, MemoryAccess, Run, End, Fault, Return, step, value_of, return_of, run_body, run_of}
+use Rattle.cx_sorts.specs.Meaning.{State, MemoryAccess, Run, End, Fault, Return, step, value_of, returned, return_of, run_body, run_of}
 use Rattle.cx_sorts.specs.Meaning as meaning
 use Rattle.cx_sorts.specs.Safe.{InType, ResultMeets, IsListed, EndsWell, Safe, AreOfForm}
 use Rattle.cx_sorts.specs.Rules.{sort_of, known_target, fits, rule, access_span, result_alarm, return_alarm, judge, verdict_of}
@@ -51,7 +50,7 @@ module _ (c : CFile) (types : TypeFile) (f : Function) (declared : FunctionType)
   result_meets :
       (sorts : List Sort) (s : State) (e : Ending) (r : Option ValueType) (d : Option Argument) (x : Option Word) → Stands c types f sorts s
       → Returns f.parameters r x → AreBothVoid r d → result_alarm types f sorts e.span x d ≡ None
-      → (option : Option ℕ) × (option_map_or (λ y. option_map_or (λ v. Return (Some v) s.memory) (value_of f s.values y) (Fault y.span)) x (Return None s.memory) ≡ Return option s.memory)
+      → (option : Option ℕ) × (returned f s x ≡ Return option s.memory)
       × ResultMeets types (layout s.memory) r d option
   result_meets sorts s e None None None stands returned both quiet = (None, refl, tt)
   result_meets sorts s e None None (Some x) stands returned both quiet = absurd returned

@@ -1,8 +1,9 @@
 -- What a function of the form does, over any memory: C11 6.5.2.3 (members), 6.5.16 (assignment), 6.8.6.4 (return), with
 -- numbers of 8 bytes, the least significant byte first (System V AMD64 ABI, 3.1.1). Its variables are its parameters.
--- Four choices are not C's. Addresses are numbers, and `p->m` is at p and the offset of m, modulo 2 ^ 64. An access of bytes
--- that lie inside no region is a fault. So is the use of a name that is no parameter, which the form rules out. In an
--- assignment the right side comes first, then the address of the left side, then the write (6.5.16 leaves this open).
+-- These choices are this project's own: addresses are numbers, and `p->m` is at p plus the offset of m, modulo 2 ^ 64; an
+-- access to bytes that lie inside no region is a fault, and so is the use of a name that is no parameter, which the form
+-- rules out; in an assignment the right side comes first, then the address of the left side, then the write (6.5.16 leaves
+-- the order open).
 use Rattle.std.specs.Prelude.{ℕ, ◌+◌, ◌-◌, ◌%◌, ◌^◌, min, max, List, [], ◌∷◌, ◌++◌, length, take, drop, Bool, ◌&&◌, nat_le, if◌then◌else◌, Option, Some, None, option_map, option_and_then, ok_or, slice_get, slice_set, Result, Ok, Err}
 use Rattle.std.specs.Option.{option_map_or}
 use Rattle.std.proofs.Math.Nat.{le_trans, min-le_left, le-max_left}
@@ -10,6 +11,8 @@ use Rattle.cx_base.specs.declared.memory.Region.{Region}
 use Rattle.cx_base.specs.declared.span.Span.{Span}
 use Rattle.cx_base.specs.Bytes.{bytes_of}
 use Rattle.cx_form.specs.declared.tree.Word.{Word}
+use Rattle.cx_form.specs.declared.tree.Parameter.{Parameter}
+use Rattle.cx_form.specs.declared.tree.Struct.{Struct}
 use Rattle.cx_form.specs.declared.tree.ValueType.{ValueType}
 use Rattle.cx_form.specs.declared.tree.ValueType.TheVariants.{UnsignedLong, Pointer}
 use Rattle.cx_form.specs.declared.tree.Statement.{Statement}
@@ -84,13 +87,16 @@ abbrev pub pointee : ValueType → Option Word
 pointee UnsignedLong = None
 pointee (Pointer tag) = Some tag
 
--- the offset of m in the struct that the C type of p points to
+-- the struct N of the file, where the C type of p is struct N *
+abbrev pub pointed_struct : CFile → Function → Word → Option Struct
+pointed_struct c f p =
+    let parameter : Option Parameter = option_and_then (slice_get f.parameters) (variable f p) in
+    let tag : Option Word = option_and_then (λ (x : Parameter). pointee x.ctype) parameter in
+    option_and_then (struct_of c) tag
+
+-- the offset of m in that struct
 abbrev pub member_offset : CFile → Function → Word → Word → Option ℕ
-member_offset c f p m =
-    option_and_then (λ s. offset_of s m)
-    (option_and_then (struct_of c)
-    (option_and_then (λ parameter. pointee parameter.ctype)
-    (option_and_then (slice_get f.parameters) (variable f p))))
+member_offset c f p m = option_and_then (λ s. offset_of s m) (pointed_struct c f p)
 
 -- the address of p->m (C11 6.5.2.3 and 6.5.6)
 abbrev pub address_of : CFile → Function → List ℕ → Word → Word → Option ℕ
@@ -110,11 +116,15 @@ step c f s (Store p m x) =
     ok_or (store s.memory a v) (cover p m) >>= λ memory.
     Ok (record { span = cover p m; address = a; size = 8; memory = s.memory }, record { values = s.values; memory = memory })
 
+-- a return of the value of a variable, or of none
+abbrev pub returned : Function → State → Option Word → End
+returned f s None = Return None s.memory
+returned f s (Some x) = option_map_or (λ v. Return (Some v) s.memory) (value_of f s.values x) (Fault x.span)
+
 -- the return at the end of the body; a body without one ends without a value
 abbrev pub return_of : Function → State → Option Ending → End
 return_of f s None = Return None s.memory
-return_of f s (Some e) =
-    option_map_or (λ x. option_map_or (λ v. Return (Some v) s.memory) (value_of f s.values x) (Fault x.span)) e.value (Return None s.memory)
+return_of f s (Some e) = returned f s e.value
 
 -- a run that goes on after a statement
 abbrev pub go_on : Result (MemoryAccess × State) Span → (State → Run) → Run

@@ -1,4 +1,4 @@
-ghost use Rattle.std.specs.Prelude.{◌≡◌, ◌^◌, ◌<◌, length, IfOk, Some, None};
+ghost use Rattle.std.specs.Prelude.{◌≡◌, IfOk};
 ghost use Rattle.cx_sorts.specs.Rules.{verdict_of};
 ghost use Rattle.cx_sorts.specs.Safe.{AreOfForm, Safe};
 

@@ -4,8 +4,8 @@ ghost use Rattle.cx_sorts.specs.Layout.{size_of, alignment_of, begins, ends, off
 use crate::names::same_name;
 use cx_form::{Member, Struct, ValueType, Word};
 
-// Offsets and sizes are u128: twice the bits of any count of members leave no sum that could pass
-// the type.
+// Offsets and sizes are u128, so that no number of members, which is below 2^64, makes a sum that
+// passes the type.
 
 fn size_of(t: &ValueType) -> u128
     ensures size { result ≡ size_of t.now }

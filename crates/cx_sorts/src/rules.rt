@@ -1,4 +1,4 @@
-ghost use Rattle.std.specs.Prelude.{◌≡◌, ◌^◌, ◌<◌, length, map, IfOk, option_map, option_copied, Option};
+ghost use Rattle.std.specs.Prelude.{◌≡◌, map, IfOk, option_map, option_copied};
 ghost use Rattle.std.specs.Result.{result_map_both};
 ghost use Rattle.cx_sorts.specs.Meaning.{cover, member_offset};
 ghost use Rattle.cx_sorts.specs.Rules.{region_of, sort_of, target_of, known_target, region_type, cell_at, within, held_at, fits, may_store, loaded, rule, access_span, result_alarm, return_alarm};

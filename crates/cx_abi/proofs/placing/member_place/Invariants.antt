@@ -1,0 +1,8 @@
+use Rattle.std.proofs.Common.{map, drop}
+use Rattle.cx_ctree.specs.Decls.{tag_tree, member_tree}
+use Rattle.cx_abi.proofs.Places.{Seeking}
+use Rattle.cx_abi.proofs.placing.member_place.Given as goal
+
+abbrev pub invariant-loop-m : goal.invariant-loop-m
+invariant-loop-m l =
+    Seeking (map tag_tree l.unit.tags) l.union_ (map member_tree l.members) (map member_tree (drop l.m-index l.members)) l.end l.name

@@ -1,0 +1,3 @@
+pub mod Recursion
+pub mod Extents
+pub mod Fields
