@@ -1,1 +1,4 @@
 pub mod Places
+pub mod Stops
+pub mod Headline
+pub mod Few

@@ -1,3 +1,6 @@
+pub mod Answers
+pub mod Headline
+pub mod Outcome
 pub mod Report
 pub mod Status
 pub mod Words

@@ -1,5 +1,5 @@
 -- The text of the report, byte for byte.
-use Rattle.std.specs.Prelude.{ℕ, ◌-◌, ◌++◌, ◌==◌, List, [], ◌∷◌, Option, Some, None, if◌then◌else◌, codes, decimal, slice_get}
+use Rattle.std.specs.Prelude.{ℕ, ◌-◌, ◌++◌, ◌==◌, List, [], if◌then◌else◌, codes, decimal, slice_get}
 use Rattle.std.specs.List.{flat_map}
 use Rattle.std.specs.Option.{option_map_or}
 use Rattle.cx_base.specs.declared.span.Span.{Span}
@@ -8,7 +8,6 @@ use Rattle.cx_form.specs.declared.tree.RegionType.{RegionType}
 use Rattle.cx_form.specs.declared.tree.TypeFile.{TypeFile}
 use Rattle.cx_sorts.specs.declared.verdict.Access.{Access}
 use Rattle.cx_sorts.specs.declared.verdict.Condition.{Condition}
-use Rattle.cx_sorts.specs.declared.verdict.Verdict.{Verdict}
 
 -- line, column and number of bytes of a piece of the source
 abbrev pub place : List ℕ → Span → List ℕ

@@ -2,12 +2,13 @@
 //! ended. Its contract carries the promise of the whole program.
 #![tactic(auto)]
 
-//mod answer;
+mod ending;
+mod files;
 mod report;
-//mod run;
 mod status;
 mod text;
+mod top;
 mod words;
 
-//pub use run::run;
 pub use status::Status;
+pub use top::run;

@@ -1,4 +1,4 @@
-use Rattle.std.proofs.Common.{◌≡◌, ◌∙◌, ap, sym}
+use Rattle.std.proofs.Common.{◌∙◌, ap}
 use Rattle.cx_base.specs.Place.{line_of, column_of}
 use Rattle.cx_run.proofs.Places.{line_within, column_within}
 use Rattle.cx_run.proofs.text.line_and_column.Goals as goal

@@ -1,0 +1,18 @@
+//! The tests of all crates, a module for each layer: worked examples and tables, of what no contract
+//! says.
+#![tactic(auto)]
+
+mod sure;
+
+pub use sure::check_over_sure_files;
+
+#[cfg(test)]
+mod base;
+#[cfg(test)]
+mod form;
+#[cfg(test)]
+mod io;
+#[cfg(test)]
+mod sorts;
+#[cfg(test)]
+mod top;
