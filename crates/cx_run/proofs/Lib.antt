@@ -1,4 +1,3 @@
 pub mod Places
 pub mod Stops
 pub mod Headline
-pub mod Few

@@ -66,7 +66,6 @@ fn types_beside<F: Files>(
     ensures faults { F.faults files.old ≤ F.faults files.new }
     ensures absents { F.absents files.old ≤ F.absents files.new }
     ensures given { F.given files.old ≤ F.given files.new }
-    ensures few { IfOk result (λ types. length types.regions < 2 ^ 32) }
     ensures told { IfSome (F.map files.old) (λ m. Gives result (type_file m name.now source.now)) }
     ensures own { IsAbout TypeFile result }
     ensures cause { StopHasCause result (counted (F.faults files.old) (F.absents files.old) (F.given files.old)) (counted (F.faults files.new) (F.absents files.new) (F.given files.new)) }
@@ -114,7 +113,6 @@ fn nothing_to_judge(alloc: Global) -> Result<Answer, NoMemory>
 /// The report on the trees of both files.
 fn check_trees(alloc: Global, source: &Source, types: &Types) -> Result<Answer, NoMemory>
     requires small { length source.now.bytes ≤ 2 ^ 24 }
-    requires few { length types.now.regions < 2 ^ 32 }
     ensures told { IfOk result (λ a. seen a ≡ report source.now types.now) }
     ensures status { IfOk result (λ a. (a.status ≡ Status.Done) ⊎ (a.status ≡ Status.Alarms)) }
 {

@@ -3,9 +3,13 @@
 #![tactic(auto)]
 
 mod sure;
+mod units;
 
 pub use sure::check_over_sure_files;
+pub use units::unit_of;
 
+#[cfg(test)]
+mod abi;
 #[cfg(test)]
 mod base;
 #[cfg(test)]
