@@ -4,7 +4,7 @@ ghost use Rattle.cx_ctree.specs.Tags.{AreRanked};
 
 use crate::ctype::CType;
 use crate::decl::{Item, Tag};
-use cx_base::{List, Token};
+use cx_base::{List, Names, Token};
 
 /// What a C file declares, and its items in order. A name stands as its number in the names of the
 /// file.
@@ -13,6 +13,8 @@ use cx_base::{List, Token};
 /// tags of lower rank.
 #[derive(Drop)]
 pub struct Unit {
+    /// All names of the file, by first sight.
+    pub names: Names,
     pub tags: List<Tag>,
     /// The names declared as types.
     pub typedefs: List<(u32, CType)>,
