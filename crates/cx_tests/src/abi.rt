@@ -154,97 +154,421 @@ fn fault_of(alloc: Global, rows: &[Row], part: Part) -> Result<Option<(u8, u32)>
 fn layouts_are_those_of_a_compiler(rt: HostRuntime) -> Result<(), Fail> {
     let rows: [(&[Row], Part, u64, u32, &[u64]); 56] = [
         // struct s { char a; long b; short c; } x;
-        (&[(false, 1, &[(Char, 0, 0), (Long, 0, 0), (Short, 0, 0)])], (Named(0), 0, 0), 24, 8, &[0, 8, 16]),
+        (
+            &[(false, 1, &[(Char, 0, 0), (Long, 0, 0), (Short, 0, 0)])],
+            (Named(0), 0, 0),
+            24,
+            8,
+            &[0, 8, 16],
+        ),
         // struct s { char a; } x;
         (&[(false, 1, &[(Char, 0, 0)])], (Named(0), 0, 0), 1, 1, &[0]),
         // struct s { short a; char b; } x;
-        (&[(false, 1, &[(Short, 0, 0), (Char, 0, 0)])], (Named(0), 0, 0), 4, 2, &[0, 2]),
+        (
+            &[(false, 1, &[(Short, 0, 0), (Char, 0, 0)])],
+            (Named(0), 0, 0),
+            4,
+            2,
+            &[0, 2],
+        ),
         // struct s { char a; short b; } x;
-        (&[(false, 1, &[(Char, 0, 0), (Short, 0, 0)])], (Named(0), 0, 0), 4, 2, &[0, 2]),
+        (
+            &[(false, 1, &[(Char, 0, 0), (Short, 0, 0)])],
+            (Named(0), 0, 0),
+            4,
+            2,
+            &[0, 2],
+        ),
         // struct s { char a; int b; } x;
-        (&[(false, 1, &[(Char, 0, 0), (Int, 0, 0)])], (Named(0), 0, 0), 8, 4, &[0, 4]),
+        (
+            &[(false, 1, &[(Char, 0, 0), (Int, 0, 0)])],
+            (Named(0), 0, 0),
+            8,
+            4,
+            &[0, 4],
+        ),
         // struct s { int a; char b; } x;
-        (&[(false, 1, &[(Int, 0, 0), (Char, 0, 0)])], (Named(0), 0, 0), 8, 4, &[0, 4]),
+        (
+            &[(false, 1, &[(Int, 0, 0), (Char, 0, 0)])],
+            (Named(0), 0, 0),
+            8,
+            4,
+            &[0, 4],
+        ),
         // struct s { char a; char b; short c; } x;
-        (&[(false, 1, &[(Char, 0, 0), (Char, 0, 0), (Short, 0, 0)])], (Named(0), 0, 0), 4, 2, &[0, 1, 2]),
+        (
+            &[(false, 1, &[(Char, 0, 0), (Char, 0, 0), (Short, 0, 0)])],
+            (Named(0), 0, 0),
+            4,
+            2,
+            &[0, 1, 2],
+        ),
         // struct s { char a; short b; char c; } x;
-        (&[(false, 1, &[(Char, 0, 0), (Short, 0, 0), (Char, 0, 0)])], (Named(0), 0, 0), 6, 2, &[0, 2, 4]),
+        (
+            &[(false, 1, &[(Char, 0, 0), (Short, 0, 0), (Char, 0, 0)])],
+            (Named(0), 0, 0),
+            6,
+            2,
+            &[0, 2, 4],
+        ),
         // struct s { char a; int b; char c; } x;
-        (&[(false, 1, &[(Char, 0, 0), (Int, 0, 0), (Char, 0, 0)])], (Named(0), 0, 0), 12, 4, &[0, 4, 8]),
+        (
+            &[(false, 1, &[(Char, 0, 0), (Int, 0, 0), (Char, 0, 0)])],
+            (Named(0), 0, 0),
+            12,
+            4,
+            &[0, 4, 8],
+        ),
         // struct s { long a; char b; } x;
-        (&[(false, 1, &[(Long, 0, 0), (Char, 0, 0)])], (Named(0), 0, 0), 16, 8, &[0, 8]),
+        (
+            &[(false, 1, &[(Long, 0, 0), (Char, 0, 0)])],
+            (Named(0), 0, 0),
+            16,
+            8,
+            &[0, 8],
+        ),
         // struct s { char a; char *b; } x;
-        (&[(false, 1, &[(Char, 0, 0), (Pointer, 0, 0)])], (Named(0), 0, 0), 16, 8, &[0, 8]),
+        (
+            &[(false, 1, &[(Char, 0, 0), (Pointer, 0, 0)])],
+            (Named(0), 0, 0),
+            16,
+            8,
+            &[0, 8],
+        ),
         // struct s { void *a; short b; char c; } x;
-        (&[(false, 1, &[(Pointer, 0, 0), (Short, 0, 0), (Char, 0, 0)])], (Named(0), 0, 0), 16, 8, &[0, 8, 10]),
+        (
+            &[(false, 1, &[(Pointer, 0, 0), (Short, 0, 0), (Char, 0, 0)])],
+            (Named(0), 0, 0),
+            16,
+            8,
+            &[0, 8, 10],
+        ),
         // struct s { int a; int b; int c; } x;
-        (&[(false, 1, &[(Int, 0, 0), (Int, 0, 0), (Int, 0, 0)])], (Named(0), 0, 0), 12, 4, &[0, 4, 8]),
+        (
+            &[(false, 1, &[(Int, 0, 0), (Int, 0, 0), (Int, 0, 0)])],
+            (Named(0), 0, 0),
+            12,
+            4,
+            &[0, 4, 8],
+        ),
         // struct s { char a[7]; } x;
         (&[(false, 1, &[(Char, 7, 0)])], (Named(0), 0, 0), 7, 1, &[0]),
         // struct s { char a[7]; int b; } x;
-        (&[(false, 1, &[(Char, 7, 0), (Int, 0, 0)])], (Named(0), 0, 0), 12, 4, &[0, 8]),
+        (
+            &[(false, 1, &[(Char, 7, 0), (Int, 0, 0)])],
+            (Named(0), 0, 0),
+            12,
+            4,
+            &[0, 8],
+        ),
         // struct s { short a[3]; char b; } x;
-        (&[(false, 1, &[(Short, 3, 0), (Char, 0, 0)])], (Named(0), 0, 0), 8, 2, &[0, 6]),
+        (
+            &[(false, 1, &[(Short, 3, 0), (Char, 0, 0)])],
+            (Named(0), 0, 0),
+            8,
+            2,
+            &[0, 6],
+        ),
         // struct s { char a; long b[2]; } x;
-        (&[(false, 1, &[(Char, 0, 0), (Long, 2, 0)])], (Named(0), 0, 0), 24, 8, &[0, 8]),
+        (
+            &[(false, 1, &[(Char, 0, 0), (Long, 2, 0)])],
+            (Named(0), 0, 0),
+            24,
+            8,
+            &[0, 8],
+        ),
         // struct s { char a; int b[2][3]; short c; } x;
-        (&[(false, 1, &[(Char, 0, 0), (Int, 2, 3), (Short, 0, 0)])], (Named(0), 0, 0), 32, 4, &[0, 4, 28]),
+        (
+            &[(false, 1, &[(Char, 0, 0), (Int, 2, 3), (Short, 0, 0)])],
+            (Named(0), 0, 0),
+            32,
+            4,
+            &[0, 4, 28],
+        ),
         // struct s { char a; char *b[3]; char c; } x;
-        (&[(false, 1, &[(Char, 0, 0), (Pointer, 3, 0), (Char, 0, 0)])], (Named(0), 0, 0), 40, 8, &[0, 8, 32]),
+        (
+            &[(false, 1, &[(Char, 0, 0), (Pointer, 3, 0), (Char, 0, 0)])],
+            (Named(0), 0, 0),
+            40,
+            8,
+            &[0, 8, 32],
+        ),
         // struct s { unsigned char a; unsigned long b; unsigned short c; unsigned int d; } x;
-        (&[(false, 1, &[(Char, 0, 0), (Long, 0, 0), (Short, 0, 0), (Int, 0, 0)])], (Named(0), 0, 0), 24, 8, &[0, 8, 16, 20]),
+        (
+            &[(
+                false,
+                1,
+                &[(Char, 0, 0), (Long, 0, 0), (Short, 0, 0), (Int, 0, 0)],
+            )],
+            (Named(0), 0, 0),
+            24,
+            8,
+            &[0, 8, 16, 20],
+        ),
         // struct s { int a; long long b; signed char c; } x;
-        (&[(false, 1, &[(Int, 0, 0), (Long, 0, 0), (Char, 0, 0)])], (Named(0), 0, 0), 24, 8, &[0, 8, 16]),
+        (
+            &[(false, 1, &[(Int, 0, 0), (Long, 0, 0), (Char, 0, 0)])],
+            (Named(0), 0, 0),
+            24,
+            8,
+            &[0, 8, 16],
+        ),
         // union s { char a; long b; } x;
-        (&[(true, 1, &[(Char, 0, 0), (Long, 0, 0)])], (Named(0), 0, 0), 8, 8, &[0, 0]),
+        (
+            &[(true, 1, &[(Char, 0, 0), (Long, 0, 0)])],
+            (Named(0), 0, 0),
+            8,
+            8,
+            &[0, 0],
+        ),
         // union s { char a[5]; short b; } x;
-        (&[(true, 1, &[(Char, 5, 0), (Short, 0, 0)])], (Named(0), 0, 0), 6, 2, &[0, 0]),
+        (
+            &[(true, 1, &[(Char, 5, 0), (Short, 0, 0)])],
+            (Named(0), 0, 0),
+            6,
+            2,
+            &[0, 0],
+        ),
         // union s { char a[9]; int b; } x;
-        (&[(true, 1, &[(Char, 9, 0), (Int, 0, 0)])], (Named(0), 0, 0), 12, 4, &[0, 0]),
+        (
+            &[(true, 1, &[(Char, 9, 0), (Int, 0, 0)])],
+            (Named(0), 0, 0),
+            12,
+            4,
+            &[0, 0],
+        ),
         // union s { void *a; int b[3]; } x;
-        (&[(true, 1, &[(Pointer, 0, 0), (Int, 3, 0)])], (Named(0), 0, 0), 16, 8, &[0, 0]),
+        (
+            &[(true, 1, &[(Pointer, 0, 0), (Int, 3, 0)])],
+            (Named(0), 0, 0),
+            16,
+            8,
+            &[0, 0],
+        ),
         // union s { short a; } x;
         (&[(true, 1, &[(Short, 0, 0)])], (Named(0), 0, 0), 2, 2, &[0]),
         // struct p { char a; int b; }; struct s { char a; struct p b; } x;
-        (&[(false, 1, &[(Char, 0, 0), (Int, 0, 0)]), (false, 2, &[(Char, 0, 0), (Named(0), 0, 0)])], (Named(1), 0, 0), 12, 4, &[0, 4]),
+        (
+            &[
+                (false, 1, &[(Char, 0, 0), (Int, 0, 0)]),
+                (false, 2, &[(Char, 0, 0), (Named(0), 0, 0)]),
+            ],
+            (Named(1), 0, 0),
+            12,
+            4,
+            &[0, 4],
+        ),
         // struct p { char a; int b; }; struct s { struct p a; char b; } x;
-        (&[(false, 1, &[(Char, 0, 0), (Int, 0, 0)]), (false, 2, &[(Named(0), 0, 0), (Char, 0, 0)])], (Named(1), 0, 0), 12, 4, &[0, 8]),
+        (
+            &[
+                (false, 1, &[(Char, 0, 0), (Int, 0, 0)]),
+                (false, 2, &[(Named(0), 0, 0), (Char, 0, 0)]),
+            ],
+            (Named(1), 0, 0),
+            12,
+            4,
+            &[0, 8],
+        ),
         // struct p { char a; int b; }; struct s { struct p a[3]; char b; } x;
-        (&[(false, 1, &[(Char, 0, 0), (Int, 0, 0)]), (false, 2, &[(Named(0), 3, 0), (Char, 0, 0)])], (Named(1), 0, 0), 28, 4, &[0, 24]),
+        (
+            &[
+                (false, 1, &[(Char, 0, 0), (Int, 0, 0)]),
+                (false, 2, &[(Named(0), 3, 0), (Char, 0, 0)]),
+            ],
+            (Named(1), 0, 0),
+            28,
+            4,
+            &[0, 24],
+        ),
         // struct p { long a; char b; }; struct s { char a; struct p b; short c; } x;
-        (&[(false, 1, &[(Long, 0, 0), (Char, 0, 0)]), (false, 2, &[(Char, 0, 0), (Named(0), 0, 0), (Short, 0, 0)])], (Named(1), 0, 0), 32, 8, &[0, 8, 24]),
+        (
+            &[
+                (false, 1, &[(Long, 0, 0), (Char, 0, 0)]),
+                (false, 2, &[(Char, 0, 0), (Named(0), 0, 0), (Short, 0, 0)]),
+            ],
+            (Named(1), 0, 0),
+            32,
+            8,
+            &[0, 8, 24],
+        ),
         // struct p { char a[3]; }; struct s { struct p a; short b; } x;
-        (&[(false, 1, &[(Char, 3, 0)]), (false, 2, &[(Named(0), 0, 0), (Short, 0, 0)])], (Named(1), 0, 0), 6, 2, &[0, 4]),
+        (
+            &[
+                (false, 1, &[(Char, 3, 0)]),
+                (false, 2, &[(Named(0), 0, 0), (Short, 0, 0)]),
+            ],
+            (Named(1), 0, 0),
+            6,
+            2,
+            &[0, 4],
+        ),
         // struct p { char a[3]; }; struct s { char a; struct p b[2]; int c; } x;
-        (&[(false, 1, &[(Char, 3, 0)]), (false, 2, &[(Char, 0, 0), (Named(0), 2, 0), (Int, 0, 0)])], (Named(1), 0, 0), 12, 4, &[0, 1, 8]),
+        (
+            &[
+                (false, 1, &[(Char, 3, 0)]),
+                (false, 2, &[(Char, 0, 0), (Named(0), 2, 0), (Int, 0, 0)]),
+            ],
+            (Named(1), 0, 0),
+            12,
+            4,
+            &[0, 1, 8],
+        ),
         // union p { short a; char b[3]; }; struct s { char a; union p b; char c; } x;
-        (&[(true, 1, &[(Short, 0, 0), (Char, 3, 0)]), (false, 2, &[(Char, 0, 0), (Named(0), 0, 0), (Char, 0, 0)])], (Named(1), 0, 0), 8, 2, &[0, 2, 6]),
+        (
+            &[
+                (true, 1, &[(Short, 0, 0), (Char, 3, 0)]),
+                (false, 2, &[(Char, 0, 0), (Named(0), 0, 0), (Char, 0, 0)]),
+            ],
+            (Named(1), 0, 0),
+            8,
+            2,
+            &[0, 2, 6],
+        ),
         // struct p { char a; int b; }; union s { struct p a; char b[9]; } x;
-        (&[(false, 1, &[(Char, 0, 0), (Int, 0, 0)]), (true, 2, &[(Named(0), 0, 0), (Char, 9, 0)])], (Named(1), 0, 0), 12, 4, &[0, 0]),
+        (
+            &[
+                (false, 1, &[(Char, 0, 0), (Int, 0, 0)]),
+                (true, 2, &[(Named(0), 0, 0), (Char, 9, 0)]),
+            ],
+            (Named(1), 0, 0),
+            12,
+            4,
+            &[0, 0],
+        ),
         // struct p { char a; int b; }; union q { struct p a; char b[9]; }; struct s { union q a; char b; } x;
-        (&[(false, 1, &[(Char, 0, 0), (Int, 0, 0)]), (true, 2, &[(Named(0), 0, 0), (Char, 9, 0)]), (false, 3, &[(Named(1), 0, 0), (Char, 0, 0)])], (Named(2), 0, 0), 16, 4, &[0, 12]),
+        (
+            &[
+                (false, 1, &[(Char, 0, 0), (Int, 0, 0)]),
+                (true, 2, &[(Named(0), 0, 0), (Char, 9, 0)]),
+                (false, 3, &[(Named(1), 0, 0), (Char, 0, 0)]),
+            ],
+            (Named(2), 0, 0),
+            16,
+            4,
+            &[0, 12],
+        ),
         // union p { char a[5]; short b; }; union s { union p a; int b; } x;
-        (&[(true, 1, &[(Char, 5, 0), (Short, 0, 0)]), (true, 2, &[(Named(0), 0, 0), (Int, 0, 0)])], (Named(1), 0, 0), 8, 4, &[0, 0]),
+        (
+            &[
+                (true, 1, &[(Char, 5, 0), (Short, 0, 0)]),
+                (true, 2, &[(Named(0), 0, 0), (Int, 0, 0)]),
+            ],
+            (Named(1), 0, 0),
+            8,
+            4,
+            &[0, 0],
+        ),
         // struct s { int a; struct s *b; } x;
-        (&[(false, 1, &[(Int, 0, 0), (Pointer, 0, 0)])], (Named(0), 0, 0), 16, 8, &[0, 8]),
+        (
+            &[(false, 1, &[(Int, 0, 0), (Pointer, 0, 0)])],
+            (Named(0), 0, 0),
+            16,
+            8,
+            &[0, 8],
+        ),
         // struct s { char a; struct s *b[2]; union u *c; } x;
-        (&[(false, 1, &[(Char, 0, 0), (Pointer, 2, 0), (Pointer, 0, 0)]), (true, 0, &[])], (Named(0), 0, 0), 32, 8, &[0, 8, 24]),
+        (
+            &[
+                (false, 1, &[(Char, 0, 0), (Pointer, 2, 0), (Pointer, 0, 0)]),
+                (true, 0, &[]),
+            ],
+            (Named(0), 0, 0),
+            32,
+            8,
+            &[0, 8, 24],
+        ),
         // struct o; struct s { struct o *a; char b; } x;
-        (&[(false, 0, &[]), (false, 1, &[(Pointer, 0, 0), (Char, 0, 0)])], (Named(1), 0, 0), 16, 8, &[0, 8]),
+        (
+            &[
+                (false, 0, &[]),
+                (false, 1, &[(Pointer, 0, 0), (Char, 0, 0)]),
+            ],
+            (Named(1), 0, 0),
+            16,
+            8,
+            &[0, 8],
+        ),
         // struct p { int a; struct p *b; }; struct s { struct p a; struct p *b; char c; } x;
-        (&[(false, 1, &[(Int, 0, 0), (Pointer, 0, 0)]), (false, 2, &[(Named(0), 0, 0), (Pointer, 0, 0), (Char, 0, 0)])], (Named(1), 0, 0), 32, 8, &[0, 16, 24]),
+        (
+            &[
+                (false, 1, &[(Int, 0, 0), (Pointer, 0, 0)]),
+                (false, 2, &[(Named(0), 0, 0), (Pointer, 0, 0), (Char, 0, 0)]),
+            ],
+            (Named(1), 0, 0),
+            32,
+            8,
+            &[0, 16, 24],
+        ),
         // struct s { char a; struct { short b; long c; } d; char e; } x;
-        (&[(false, 2, &[(Char, 0, 0), (Named(1), 0, 0), (Char, 0, 0)]), (false, 1, &[(Short, 0, 0), (Long, 0, 0)])], (Named(0), 0, 0), 32, 8, &[0, 8, 24]),
+        (
+            &[
+                (false, 2, &[(Char, 0, 0), (Named(1), 0, 0), (Char, 0, 0)]),
+                (false, 1, &[(Short, 0, 0), (Long, 0, 0)]),
+            ],
+            (Named(0), 0, 0),
+            32,
+            8,
+            &[0, 8, 24],
+        ),
         // struct p { char a; struct { short b; long c; } d; }; struct s { int a[2]; struct p b; unsigned short c; } x;
-        (&[(false, 2, &[(Char, 0, 0), (Named(1), 0, 0)]), (false, 1, &[(Short, 0, 0), (Long, 0, 0)]), (false, 3, &[(Int, 2, 0), (Named(0), 0, 0), (Short, 0, 0)])], (Named(2), 0, 0), 40, 8, &[0, 8, 32]),
+        (
+            &[
+                (false, 2, &[(Char, 0, 0), (Named(1), 0, 0)]),
+                (false, 1, &[(Short, 0, 0), (Long, 0, 0)]),
+                (false, 3, &[(Int, 2, 0), (Named(0), 0, 0), (Short, 0, 0)]),
+            ],
+            (Named(2), 0, 0),
+            40,
+            8,
+            &[0, 8, 32],
+        ),
         // struct p { char a; short b; }; struct q { struct p a[2]; long b; }; struct s { char a; struct q b[2]; struct p c; } x;
-        (&[(false, 1, &[(Char, 0, 0), (Short, 0, 0)]), (false, 2, &[(Named(0), 2, 0), (Long, 0, 0)]), (false, 3, &[(Char, 0, 0), (Named(1), 2, 0), (Named(0), 0, 0)])], (Named(2), 0, 0), 48, 8, &[0, 8, 40]),
+        (
+            &[
+                (false, 1, &[(Char, 0, 0), (Short, 0, 0)]),
+                (false, 2, &[(Named(0), 2, 0), (Long, 0, 0)]),
+                (
+                    false,
+                    3,
+                    &[(Char, 0, 0), (Named(1), 2, 0), (Named(0), 0, 0)],
+                ),
+            ],
+            (Named(2), 0, 0),
+            48,
+            8,
+            &[0, 8, 40],
+        ),
         // struct p { char a; long b; short c; }; union u { struct p a; char b[25]; }; struct s { union u a[2]; char b; } x;
-        (&[(false, 1, &[(Char, 0, 0), (Long, 0, 0), (Short, 0, 0)]), (true, 2, &[(Named(0), 0, 0), (Char, 25, 0)]), (false, 3, &[(Named(1), 2, 0), (Char, 0, 0)])], (Named(2), 0, 0), 72, 8, &[0, 64]),
+        (
+            &[
+                (false, 1, &[(Char, 0, 0), (Long, 0, 0), (Short, 0, 0)]),
+                (true, 2, &[(Named(0), 0, 0), (Char, 25, 0)]),
+                (false, 3, &[(Named(1), 2, 0), (Char, 0, 0)]),
+            ],
+            (Named(2), 0, 0),
+            72,
+            8,
+            &[0, 64],
+        ),
         // typedef struct { char a; int b; } t; struct s { char a; t b; t *c; } x;
-        (&[(false, 1, &[(Char, 0, 0), (Int, 0, 0)]), (false, 2, &[(Char, 0, 0), (Named(0), 0, 0), (Pointer, 0, 0)])], (Named(1), 0, 0), 24, 8, &[0, 4, 16]),
+        (
+            &[
+                (false, 1, &[(Char, 0, 0), (Int, 0, 0)]),
+                (false, 2, &[(Char, 0, 0), (Named(0), 0, 0), (Pointer, 0, 0)]),
+            ],
+            (Named(1), 0, 0),
+            24,
+            8,
+            &[0, 4, 16],
+        ),
         // enum e { E }; struct s { char a; enum e b; char c; } x;
-        (&[(false, 1, &[(Char, 0, 0), (Int, 0, 0), (Char, 0, 0)])], (Named(0), 0, 0), 12, 4, &[0, 4, 8]),
+        (
+            &[(false, 1, &[(Char, 0, 0), (Int, 0, 0), (Char, 0, 0)])],
+            (Named(0), 0, 0),
+            12,
+            4,
+            &[0, 4, 8],
+        ),
         // char x;
         (&[], (Char, 0, 0), 1, 1, &[]),
         // unsigned short x;
@@ -262,13 +586,27 @@ fn layouts_are_those_of_a_compiler(rt: HostRuntime) -> Result<(), Fail> {
         // char *x[2][5];
         (&[], (Pointer, 2, 5), 80, 8, &[]),
         // struct p { char a; short b; char c; }; struct p x[3];
-        (&[(false, 1, &[(Char, 0, 0), (Short, 0, 0), (Char, 0, 0)])], (Named(0), 3, 0), 18, 2, &[]),
+        (
+            &[(false, 1, &[(Char, 0, 0), (Short, 0, 0), (Char, 0, 0)])],
+            (Named(0), 3, 0),
+            18,
+            2,
+            &[],
+        ),
         // union p { char a[5]; short b; }; union p x[2][2];
-        (&[(true, 1, &[(Char, 5, 0), (Short, 0, 0)])], (Named(0), 2, 2), 24, 2, &[]),
-
+        (
+            &[(true, 1, &[(Char, 5, 0), (Short, 0, 0)])],
+            (Named(0), 2, 2),
+            24,
+            2,
+            &[],
+        ),
     ];
     for (k, (tags, part, size, align, offsets)) in rows.iter().enumerate() {
-        assert!(rt; has_layout(rt.alloc(), tags, *part, *size, *align, offsets)?, "row {k}");
+        assert!(rt;
+            has_layout(rt.alloc(), tags, *part, *size, *align, offsets)?,
+            "row {k}"
+        );
     }
     Ok(())
 }
@@ -278,7 +616,15 @@ fn layouts_are_those_of_a_compiler(rt: HostRuntime) -> Result<(), Fail> {
 fn types_without_a_layout(rt: HostRuntime) -> Result<(), Fail> {
     let rows: [(&[Row], Part, u8, u32); 9] = [
         // struct p; struct s { char a[2147483648]; char b; } x;
-        (&[(false, 0, &[]), (false, 1, &[(Char, 2147483648, 0), (Char, 0, 0)])], (Named(1), 0, 0), 1, 1),
+        (
+            &[
+                (false, 0, &[]),
+                (false, 1, &[(Char, 2147483648, 0), (Char, 0, 0)]),
+            ],
+            (Named(1), 0, 0),
+            1,
+            1,
+        ),
         // char x[2147483647][2];
         (&[], (Char, 2147483647, 2), 1, 0),
         // long x[2147483648][2147483648];
@@ -295,7 +641,15 @@ fn types_without_a_layout(rt: HostRuntime) -> Result<(), Fail> {
             1,
         ),
         // struct p; struct s { int b[2147483648]; char a; } x;
-        (&[(false, 0, &[]), (false, 1, &[(Int, 2147483648, 0), (Char, 0, 0)])], (Named(1), 0, 0), 1, 0),
+        (
+            &[
+                (false, 0, &[]),
+                (false, 1, &[(Int, 2147483648, 0), (Char, 0, 0)]),
+            ],
+            (Named(1), 0, 0),
+            1,
+            0,
+        ),
         // struct p; union u { char a[2147483648]; long b; }; struct s { union u a; char b; } x;
         (
             &[
@@ -308,14 +662,33 @@ fn types_without_a_layout(rt: HostRuntime) -> Result<(), Fail> {
             2,
         ),
         // struct p; struct q { char a[1073741825]; }; struct q x[2];
-        (&[(false, 0, &[]), (false, 1, &[(Char, 1073741825, 0)])], (Named(1), 2, 0), 1, 0),
+        (
+            &[(false, 0, &[]), (false, 1, &[(Char, 1073741825, 0)])],
+            (Named(1), 2, 0),
+            1,
+            0,
+        ),
         // struct p { int a; }; extern struct o x;
-        (&[(false, 1, &[(Int, 0, 0)]), (false, 0, &[])], (Named(1), 0, 0), 0, 1),
+        (
+            &[(false, 1, &[(Int, 0, 0)]), (false, 0, &[])],
+            (Named(1), 0, 0),
+            0,
+            1,
+        ),
         // struct p { int a; }; extern struct o x[2];
-        (&[(false, 1, &[(Int, 0, 0)]), (false, 0, &[])], (Named(1), 2, 0), 0, 1),
+        (
+            &[(false, 1, &[(Int, 0, 0)]), (false, 0, &[])],
+            (Named(1), 2, 0),
+            0,
+            1,
+        ),
     ];
     for (k, (tags, part, fault, tag)) in rows.iter().enumerate() {
-        assert_eq!(rt; fault_of(rt.alloc(), tags, *part)?, Some((*fault, *tag)), "row {k}");
+        assert_eq!(rt;
+            fault_of(rt.alloc(), tags, *part)?,
+            Some((*fault, *tag)),
+            "row {k}"
+        );
     }
     Ok(())
 }
@@ -324,14 +697,27 @@ fn types_without_a_layout(rt: HostRuntime) -> Result<(), Fail> {
 fn the_greatest_types(rt: HostRuntime) -> Result<(), Fail> {
     let rows: [(&[Row], Part, u32, &[u64]); 3] = [
         // struct s { char a[2147483647]; char b; } x;
-        (&[(false, 1, &[(Char, 2147483647, 0), (Char, 0, 0)])], (Named(0), 0, 0), 1, &[0, 2147483647]),
+        (
+            &[(false, 1, &[(Char, 2147483647, 0), (Char, 0, 0)])],
+            (Named(0), 0, 0),
+            1,
+            &[0, 2147483647],
+        ),
         // union s { char a[2147483648]; long b; } x;
-        (&[(true, 1, &[(Char, 2147483648, 0), (Long, 0, 0)])], (Named(0), 0, 0), 8, &[0, 0]),
+        (
+            &[(true, 1, &[(Char, 2147483648, 0), (Long, 0, 0)])],
+            (Named(0), 0, 0),
+            8,
+            &[0, 0],
+        ),
         // short x[2][536870912];
         (&[], (Short, 2, 536870912), 2, &[]),
     ];
     for (k, (tags, part, align, offsets)) in rows.iter().enumerate() {
-        assert!(rt; has_layout(rt.alloc(), tags, *part, 2147483648, *align, offsets)?, "row {k}");
+        assert!(rt;
+            has_layout(rt.alloc(), tags, *part, 2147483648, *align, offsets)?,
+            "row {k}"
+        );
     }
     Ok(())
 }
@@ -340,7 +726,12 @@ fn the_greatest_types(rt: HostRuntime) -> Result<(), Fail> {
 fn void_and_absent_members(rt: HostRuntime) -> Result<(), Fail> {
     let alloc = rt.alloc();
     let unit = declared(alloc, &[(false, 1, &[(Char, 0, 0), (Int, 0, 0)])])?.expect(&rt, "ranked");
-    assert!(rt; matches!(layout(alloc, &unit, &CType::Void), Err(LayoutFault::Incomplete(0))));
+    assert!(rt;
+        matches!(
+            layout(alloc, &unit, &CType::Void),
+            Err(LayoutFault::Incomplete(0))
+        )
+    );
     assert_eq!(rt; offset_of(&unit, 0, 1), Some(4));
     assert_eq!(rt; offset_of(&unit, 0, 2), None);
     assert_eq!(rt; offset_of(&unit, 1, 1), None);
