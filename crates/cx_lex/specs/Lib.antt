@@ -1,0 +1,5 @@
+pub mod Bytes
+pub mod Directives
+pub mod Lexed
+pub mod Order
+pub mod Machine
