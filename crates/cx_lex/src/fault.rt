@@ -5,7 +5,7 @@ use cx_base::NoMemory;
 use thiserror::Error;
 
 /// Why a text has no tokens. Each place is the offset of a byte from the first byte of the text.
-#[derive(Debug, Drop, Error)]
+#[derive(Debug, Drop, PartialEq, Eq, Error)]
 pub enum LexFault {
     /// The comment that begins at this byte with `/*` has no end.
     #[error("the comment at byte {0} has no end")]
