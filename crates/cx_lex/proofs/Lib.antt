@@ -3,3 +3,4 @@ pub mod Loop
 pub mod Pragmas
 pub mod Agrees
 pub mod Order
+pub mod Pieces

@@ -12,7 +12,7 @@ use Rattle.cx_lex.specs.Order.{InOrder}
 
 -- ---- no piece is longer than what is left
 
-abbrev Within : Piece → List ℕ → Type 0
+abbrev pub Within : Piece → List ℕ → Type 0
 Within (passed n fresh) bs = n ≤ length bs
 Within (taken k n) bs = n ≤ length bs
 Within (stopped f) bs = Unit {0}
@@ -99,7 +99,7 @@ other_within b bs =
       ]
     ]
 
-piece_within : (fresh : Bool) (b : ℕ) (bs : List ℕ) → Within (piece_at fresh b bs) bs
+pub piece_within : (fresh : Bool) (b : ℕ) (bs : List ℕ) → Within (piece_at fresh b bs) bs
 piece_within fresh b bs =
     elim (cases_Bool (b == 10)) [
       | inl t1 ↦ rw t1 (omega arith)
