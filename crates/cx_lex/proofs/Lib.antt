@@ -1,0 +1,6 @@
+pub mod Spans
+pub mod Loop
+pub mod Pragmas
+pub mod Agrees
+pub mod Order
+pub mod Pieces
