@@ -17,6 +17,10 @@ mod form;
 #[cfg(test)]
 mod io;
 #[cfg(test)]
+mod lex;
+#[cfg(test)]
 mod sorts;
+#[cfg(test)]
+mod term;
 #[cfg(test)]
 mod top;
