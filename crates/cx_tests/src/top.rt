@@ -104,7 +104,7 @@ fn reports(rt: HostRuntime) -> Result<(), Fail> {
             "at {text}"
         );
         assert_eq!(rt; out.written(), text.as_bytes());
-        assert_eq!(rt; out.room_left(), 67108864 - text.len());
+        assert_eq!(rt; Some(out.room_left()), 67108864usize.checked_sub(text.len()));
     }
     Ok(())
 }
