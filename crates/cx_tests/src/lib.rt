@@ -1,26 +1,17 @@
-//! The tests of all crates, a module for each layer: worked examples and tables, of what no contract
-//! says.
+//! The tests of the crates from files and sinks up to the top call, a module for each layer: worked
+//! examples and tables, of what no contract says. Those of the lowest crates stand in
+//! `cx_tests_lower`.
 #![tactic(auto)]
 
 mod sure;
-mod units;
 
 pub use sure::check_over_sure_files;
-pub use units::unit_of;
 
-#[cfg(test)]
-mod abi;
-#[cfg(test)]
-mod base;
 #[cfg(test)]
 mod form;
 #[cfg(test)]
 mod io;
 #[cfg(test)]
-mod lex;
-#[cfg(test)]
 mod sorts;
-#[cfg(test)]
-mod term;
 #[cfg(test)]
 mod top;

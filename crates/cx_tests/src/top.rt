@@ -104,7 +104,10 @@ fn reports(rt: HostRuntime) -> Result<(), Fail> {
             "at {text}"
         );
         assert_eq!(rt; out.written(), text.as_bytes());
-        assert_eq!(rt; Some(out.room_left()), 67108864usize.checked_sub(text.len()));
+        assert_eq!(rt;
+            Some(out.room_left()),
+            67108864usize.checked_sub(text.len())
+        );
     }
     Ok(())
 }

@@ -4,8 +4,8 @@ use Rattle.cx_ctree.specs.declared.decl.Member.{Member}
 use Rattle.cx_ctree.specs.Types.{type_tree}
 use Rattle.cx_ctree.specs.Tags.{is_below}
 use Rattle.cx_ctree.specs.Decls.{tag_tree}
-use Rattle.cx_tests.proofs.Ranks.{members_ranked}
-use Rattle.cx_tests.proofs.units.is_ranked.Goals as goal
+use Rattle.cx_tests_lower.proofs.Ranks.{members_ranked}
+use Rattle.cx_tests_lower.proofs.units.is_ranked.Goals as goal
 
 pub returns-else-tag-eq0 : goal.returns-else-tag-eq0
 returns-else-tag-eq0 c =

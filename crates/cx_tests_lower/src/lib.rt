@@ -1,0 +1,16 @@
+//! The tests of the lowest crates, a module for each: tables and worked examples, of what no contract
+//! says.
+#![tactic(auto)]
+
+mod units;
+
+pub use units::unit_of;
+
+#[cfg(test)]
+mod abi;
+#[cfg(test)]
+mod base;
+#[cfg(test)]
+mod lex;
+#[cfg(test)]
+mod term;
