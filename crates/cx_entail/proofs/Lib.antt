@@ -7,3 +7,5 @@ pub mod WidenLaws
 pub mod BoundLaws
 pub mod Sound
 pub mod Nonzero
+pub mod MeetLaws
+pub mod MeetEnds

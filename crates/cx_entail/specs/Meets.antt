@@ -1,6 +1,6 @@
 -- The common numbers of two ranges.
-use Rattle.std.specs.Prelude.{◌≡◌, ℕ, ℤ, pos, ◌*ℤ◌, ◌≤ℤ◌, ◌<◌, ◌≤◌, ◌^◌, ◌*◌, ◌/◌}
-use Rattle.std.specs.Int.{IsGcd}
+use Rattle.std.specs.Prelude.{◌≡◌, ℕ, ℤ, pos, ◌*ℤ◌, ◌≤ℤ◌, ◌<◌, ◌≤◌, ◌^◌, ◌*◌, ◌/◌, unsigned_abs, nat_lt, if◌then◌else◌}
+use Rattle.std.specs.Int.{IsGcd, int_rem_euclid}
 use Rattle.cx_entail.specs.Ranges.{Congruent, Span, Has}
 use Rattle.cx_entail.specs.Joins.{gcd}
 
@@ -50,3 +50,21 @@ pub record IsMultiple (d : ℤ) (g s k t : ℕ) : Type 0 where
   pub e : ℤ
   pub whole : d ≡ pos g *ℤ e
   pub same : Congruent k (pos t) (pos s *ℤ e)
+
+-- n is a's modulus times the number k that the gcd g of the moduli divides b's into
+pub record IsStep (a b : Span) (n : ℕ) : Type 0 where
+  pub g : ℕ
+  pub s : ℕ
+  pub k : ℕ
+  pub g_positive : 0 < g
+  pub inverse : IsInverse a.m b.m g s
+  pub whole : g * k ≡ b.m
+  pub is : n ≡ a.m * k
+  pub positive : 0 < n
+
+-- the numbers from v to h that are v modulo n where n is a step, else those with a's step
+abbrev pub met_span : Span → ℤ → ℤ → ℕ → Span
+met_span a v h n =
+    if nat_lt n (2 ^ 64)
+    then record { lo = v; hi = h; m = n; r = unsigned_abs (int_rem_euclid v (pos n)) }
+    else record { lo = v; hi = h; m = a.m; r = a.r }

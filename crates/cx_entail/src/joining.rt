@@ -9,7 +9,7 @@ use crate::range::{Range, distance, rem};
 const END: i128 = 36893488147419103232;
 
 /// 2^64. A step is below it.
-const STEP_LIMIT: u128 = 18446744073709551616;
+pub(crate) const STEP_LIMIT: u128 = 18446744073709551616;
 
 pub(crate) fn lesser(a: i128, b: i128) -> i128
     requires a_small { unsigned_abs a ≤ 2 ^ 65 }

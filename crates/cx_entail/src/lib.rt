@@ -3,6 +3,7 @@
 
 mod bounding;
 mod joining;
+mod meeting;
 mod range;
 mod showing;
 
