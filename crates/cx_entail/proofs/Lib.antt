@@ -1,0 +1,11 @@
+pub mod Euclid
+pub mod Congruences
+pub mod GcdLaws
+pub mod RangeLaws
+pub mod JoinLaws
+pub mod WidenLaws
+pub mod BoundLaws
+pub mod Sound
+pub mod Nonzero
+pub mod MeetLaws
+pub mod MeetEnds

@@ -1,0 +1,10 @@
+use Rattle.std.proofs.Common.{◌≡◌, ◌≤◌, ◌^◌, drop, unsigned_abs}
+use Rattle.cx_entail.specs.Joins.{greatest_up_to, AreEnds}
+use Rattle.cx_entail.proofs.joining.threshold_up_to.Given as goal
+
+abbrev pub invariant-loop-t : goal.invariant-loop-t
+invariant-loop-t l = record {
+  same : greatest_up_to l.z (drop l.t-index l.thresholds) l.best ≡ greatest_up_to l.z l.thresholds l.initial.best;
+  small : unsigned_abs l.best ≤ 2 ^ 65;
+  ends : AreEnds (drop l.t-index l.thresholds);
+}

@@ -1,0 +1,5 @@
+pub mod Ranges
+pub mod Joins
+pub mod Bounds
+pub mod Shows
+pub mod Meets
