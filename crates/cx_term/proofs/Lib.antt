@@ -1,0 +1,7 @@
+pub mod Ring
+pub mod Tests
+pub mod Values
+pub mod Canonical
+pub mod Limits
+pub mod Exact
+pub mod AllReplaced

@@ -1,0 +1,8 @@
+//! Linear forms over numbered symbols, exact and within limits.
+#![tactic(auto)]
+
+mod parts;
+mod replace;
+mod term;
+
+pub use term::{Ineq, Term};
