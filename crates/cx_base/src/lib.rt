@@ -2,6 +2,7 @@
 #![tactic(auto)]
 
 mod bytes;
+mod fault_kind;
 mod list;
 mod memory;
 mod names;
@@ -10,6 +11,7 @@ mod place;
 mod span;
 mod token;
 
+pub use fault_kind::FaultKind;
 pub use list::{List, NoMemory};
 pub use memory::{AddFault, Memory, Region};
 pub use names::Names;

@@ -1,0 +1,5 @@
+pub mod Values
+pub mod Layouts
+pub mod Meaning
+pub mod Typing
+pub mod Calls

@@ -1,0 +1,16 @@
+use crate::calls::{AllocType, FnType, GlobalType};
+use crate::form::Form;
+use cx_base::List;
+
+/// The region types of a type file, each with its name, and the types of its functions, allocators
+/// and globals.
+#[derive(Drop)]
+pub struct Rules {
+    /// The names of the region types.
+    pub names: List<List<u8>>,
+    /// The forms of the region types, in the order of their names.
+    pub forms: List<Form>,
+    pub fns: List<FnType>,
+    pub allocs: List<AllocType>,
+    pub globals: List<GlobalType>,
+}
