@@ -1,19 +1,16 @@
 -- The meaning of forms on four forms and bytes that hold them.
-use Rattle.std.proofs.Common.{◌≡◌, refl, ℕ, zero, suc, ◌<◌, List, [], ◌∷◌, Some, None, Option, true, false, inl, inr, arith}
-use Rattle.std.specs.Prelude.{ℤ, pos, negsuc, ◌<ℤ◌, Any}
+use Rattle.std.proofs.Common.{◌≡◌, refl, ℕ, zero, suc, List, [], ◌∷◌, Some, None, true, false, inl, inr, arith}
+use Rattle.std.specs.Prelude.{pos, negsuc}
 use Rattle.std.proofs.lemmas.Int.{ints}
 use Rattle.cx_base.specs.Number.{half_of}
 use Rattle.cx_term.specs.Forms.{Linear, symbol_of, constant_of}
-use Rattle.cx_term.specs.declared.term.Ineq.{Ineq}
-use Rattle.cx_term.specs.declared.term.Ineq.TheVariants.{Ge, Ne}
-use Rattle.cx_cells.specs.Layouts.{Extent, IsAt}
-use Rattle.cx_cells.specs.Meaning.{number_at, form_size, PartHolds, BranchHolds, HeadHolds, ElementsHold, FormHolds}
+use Rattle.cx_term.specs.declared.term.Ineq.TheVariants.{Ge}
+use Rattle.cx_cells.specs.Layouts.{Extent}
+use Rattle.cx_cells.specs.Meaning.{number_at, form_size, ElementsHold, FormHolds}
 use Rattle.cx_cells.specs.declared.cell.CellKind.{CellKind}
 use Rattle.cx_cells.specs.declared.cell.CellKind.TheVariants.{Val, Ptr}
 use Rattle.cx_cells.specs.declared.cell.FlatCell.{FlatCell}
 use Rattle.cx_cells.specs.declared.form.Part.{Part}
-use Rattle.cx_cells.specs.declared.form.CaseBranch.{CaseBranch}
-use Rattle.cx_cells.specs.declared.form.Tail.{Tail}
 use Rattle.cx_cells.specs.declared.form.Form.{Form}
 
 abbrev cell : ℕ → ℕ → CellKind → FlatCell

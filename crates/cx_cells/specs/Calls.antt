@@ -1,5 +1,5 @@
 -- The types of functions and allocators: when arguments meet one, and when what a call gives meets it.
-use Rattle.std.specs.Prelude.{◌≡◌, ℕ, ℤ, pos, ◌*ℤ◌, List, [], ◌∷◌, ◌++◌, length, All, slice_get, IsSomeAnd, Bool, true, false, Option, Some, None}
+use Rattle.std.specs.Prelude.{◌≡◌, ℕ, ℤ, pos, ◌*ℤ◌, List, [], ◌∷◌, ◌++◌, length, All, slice_get, IsSomeAnd, true, false, Option, Some, None}
 use Rattle.std.specs.List.{AllByRecursion}
 use Rattle.cx_base.specs.Bytes.{AreBytes}
 use Rattle.cx_base.specs.Memory.{IsArgument, Valid}

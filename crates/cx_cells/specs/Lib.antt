@@ -3,3 +3,4 @@ pub mod Layouts
 pub mod Meaning
 pub mod Typing
 pub mod Calls
+pub mod Symbols

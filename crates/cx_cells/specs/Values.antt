@@ -1,5 +1,5 @@
 -- Numbers as the values of symbols, and when a condition is true of them.
-use Rattle.std.specs.Prelude.{◌≡◌, ◌≢◌, ℕ, ℤ, pos, negsuc, ◌≤ℤ◌, List, map, slice_index_or, Option, Some, None}
+use Rattle.std.specs.Prelude.{◌≢◌, ℕ, ℤ, pos, negsuc, ◌≤ℤ◌, List, map, slice_index_or, Option, Some, None}
 use Rattle.cx_term.specs.Forms.{Linear, value}
 use Rattle.cx_term.specs.declared.term.Ineq.{Ineq}
 use Rattle.cx_term.specs.declared.term.Ineq.TheVariants.{Ge, Ne}

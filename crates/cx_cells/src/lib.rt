@@ -6,11 +6,15 @@
 mod calls;
 mod cell;
 mod form;
+mod range;
 mod rules;
 mod script;
+mod telling;
 
 pub use calls::{AllocArg, AllocType, FnType, GlobalType, ResultType};
 pub use cell::{CellKind, FlatCell};
 pub use form::{CaseBranch, Form, Part, Tail};
+pub use range::cell_range;
 pub use rules::Rules;
 pub use script::{Answer, Block, Script};
+pub use telling::{Told, kind_names, telling_cell, telling_kind, told_by};
