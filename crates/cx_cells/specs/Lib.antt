@@ -4,3 +4,5 @@ pub mod Meaning
 pub mod Typing
 pub mod Calls
 pub mod Symbols
+pub mod Kept
+pub mod KeptProps
