@@ -12,5 +12,3 @@ mod abi;
 mod base;
 #[cfg(test)]
 mod lex;
-#[cfg(test)]
-mod term;
