@@ -111,26 +111,35 @@ fn array(alloc: Global) -> Form {
     array
 }
 
+fn vector_is_copied(alloc: Global) -> Result<bool, NoMemory> {
+    let vector = vector(alloc)?.copy()?;
+    match &vector.tail {
+        Some(t) => Ok(vector.head.len() == 1 && t.part.size == 2 && t.count.same(&Term::symbol(0))),
+        None => Ok(false),
+    }
+}
+
+fn tagged_is_copied(alloc: Global) -> Result<bool, NoMemory> {
+    let tagged = tagged(alloc)?.copy()?;
+    Ok(tagged.cases.len() == 2 && tagged.cases_at == 4)
+}
+
+fn node_is_copied(alloc: Global) -> Result<bool, NoMemory> {
+    let node = node(alloc)?.copy()?;
+    Ok(node.head.len() == 2 && node.head_size == 16)
+}
+
+fn array_is_copied(alloc: Global) -> Result<bool, NoMemory> {
+    let array = array(alloc).copy()?;
+    Ok(array.params == 1 && array.tail.is_some())
+}
+
 #[test]
 fn copies(rt: HostRuntime) -> Result<(), Fail> {
-    let vector = vector(rt.alloc())?.copy()?;
-    assert_eq!(rt; vector.head.len(), 1);
-    match &vector.tail {
-        Some(t) => {
-            assert_eq!(rt; t.part.size, 2);
-            assert!(rt; t.count.same(&Term::symbol(0)));
-        }
-        None => assert!(rt; false),
-    }
-    let tagged = tagged(rt.alloc())?.copy()?;
-    assert_eq!(rt; tagged.cases.len(), 2);
-    assert_eq!(rt; tagged.cases_at, 4);
-    let node = node(rt.alloc())?.copy()?;
-    assert_eq!(rt; node.head.len(), 2);
-    assert_eq!(rt; node.head_size, 16);
-    let array = array(rt.alloc()).copy()?;
-    assert_eq!(rt; array.params, 1);
-    assert!(rt; array.tail.is_some());
+    assert!(rt; vector_is_copied(rt.alloc())?);
+    assert!(rt; tagged_is_copied(rt.alloc())?);
+    assert!(rt; node_is_copied(rt.alloc())?);
+    assert!(rt; array_is_copied(rt.alloc())?);
     Ok(())
 }
 
