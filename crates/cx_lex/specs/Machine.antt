@@ -31,8 +31,9 @@ is_pragma w.ScalarStorageOrder = false
 abbrev pub first_letter : Bool → ℕ → Directive
 first_letter second b =
     if is_blank b then d.Blank second
+    else (if b == 47 then d.Slash second
     else (if b == 112 then d.Word (if second then w.Pack else w.Pragma) 1
-    else (if second && (b == 115) then d.Word w.ScalarStorageOrder 1 else d.Other))
+    else (if second && (b == 115) then d.Word w.ScalarStorageOrder 1 else d.Other)))
 
 -- a byte that does not go on with the word before it
 abbrev pub after_word : Word → ℕ → Directive
@@ -45,6 +46,8 @@ next_letter None word k b = if in_name b then d.Other else after_word word b
 
 unfoldable pub follow : Directive → ℕ → Directive
 follow (d.Blank second) b = first_letter second b
+follow (d.Slash second) b = if b == 42 then d.Comment second false else d.Other
+follow (d.Comment second star) b = if star && (b == 47) then d.Blank second else d.Comment second (b == 42)
 follow (d.Word word k) b = next_letter (slice_get (text_of word) k) word k b
 follow d.Layout b = d.Layout
 follow d.Other b = d.Other
@@ -56,6 +59,8 @@ ends_word None word = if is_pragma word then false else true
 -- the line is a layout pragma where it ends here
 unfoldable pub is_layout : Directive → Bool
 is_layout (d.Blank second) = false
+is_layout (d.Slash second) = false
+is_layout (d.Comment second star) = false
 is_layout (d.Word word k) = ends_word (slice_get (text_of word) k) word
 is_layout d.Layout = true
 is_layout d.Other = false

@@ -21,6 +21,8 @@ fn first_letter(second: bool, b: u8) -> Directive
 {
     if is_blank(b) {
         Directive::Blank(second)
+    } else if b == b'/' {
+        Directive::Slash(second)
     } else if b == b'p' {
         Directive::Word(if second { Word::Pack } else { Word::Pragma }, 1)
     } else if second && b == b's' {
@@ -69,6 +71,10 @@ pub fn follow(words: Directive, b: u8) -> Directive
 {
     match words {
         Directive::Blank(second) => first_letter(second, b),
+        Directive::Slash(second) if b == b'*' => Directive::Comment(second, false),
+        Directive::Slash(_) => Directive::Other,
+        Directive::Comment(second, star) if star && b == b'/' => Directive::Blank(second),
+        Directive::Comment(second, _) => Directive::Comment(second, b == b'*'),
         Directive::Word(word, k) => next_letter(word, k, b),
         Directive::Layout => Directive::Layout,
         Directive::Other => Directive::Other,
@@ -83,6 +89,7 @@ pub fn is_layout(words: Directive) -> bool
     match words {
         Directive::Word(word, k) => word != Word::Pragma && text_of(word).get(k).is_none(),
         Directive::Layout => true,
-        Directive::Blank(_) | Directive::Other => false,
+        Directive::Blank(_) | Directive::Slash(_) | Directive::Comment(_, _) | Directive::Other =>
+            false,
     }
 }

@@ -13,6 +13,10 @@ pub enum Word {
 pub enum Directive {
     /// No word of the line has begun, or, where it is true, none after the word `pragma`.
     Blank(bool),
+    /// The same before a slash in which the line ends, and which may begin a comment.
+    Slash(bool),
+    /// The same before an open comment; the second is true after a star inside it.
+    Comment(bool, bool),
     /// The line ends in so many of the first bytes of this word.
     Word(Word, usize),
     /// The words are those of a layout pragma.

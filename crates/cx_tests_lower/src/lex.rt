@@ -70,7 +70,7 @@ fn tokens(rt: HostRuntime) -> Result<(), Fail> {
             "#pragma once\n#pragma packed\n#pragma GCC pack\n#pack\n#pragmas pack\n# pragma pack1",
             "",
         ),
-        ("#pragma /* a */ pack(1)\n#pragma \"pack\"\n#pragma", ""),
+        ("#pragma /* pack */ a\n#pragma \"pack\"\n#pragma", ""),
     ];
     for (text, expected) in table {
         let found = spelled(&rt, rt.alloc(), text)?;
@@ -112,6 +112,14 @@ fn faults(rt: HostRuntime) {
     assert!(rt; stops(&rt, alloc, b"@ /*", LexFault::BadByte(0)));
     assert!(rt; stops(&rt, alloc, b"x\n#pragma pack(1)\n", LexFault::BadByte(2)));
     assert!(rt; stops(&rt, alloc, b" # pragma\tpack", LexFault::BadByte(1)));
+    assert!(rt;
+        stops(
+            &rt,
+            alloc,
+            b"#/* a */pragma/**/ pack(1)",
+            LexFault::BadByte(0)
+        )
+    );
     assert!(rt;
         stops(
             &rt,
