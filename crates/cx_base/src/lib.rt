@@ -1,7 +1,9 @@
-//! What every crate of Codex stands on: integer types of C, spans and places of a text, tokens, lists, names and memory.
+//! What every crate of Codex stands on: integer types of C, spans and places of a text, tokens, lists,
+//! names, memory, and what stops a run.
 #![tactic(auto)]
 
 mod bytes;
+mod fault;
 mod list;
 mod memory;
 mod names;
@@ -10,6 +12,7 @@ mod place;
 mod span;
 mod token;
 
+pub use fault::FaultKind;
 pub use list::{List, NoMemory};
 pub use memory::{AddFault, Memory, Region};
 pub use names::Names;
