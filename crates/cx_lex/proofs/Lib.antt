@@ -4,3 +4,4 @@ pub mod Pragmas
 pub mod Agrees
 pub mod Order
 pub mod Pieces
+pub mod Inside

@@ -1,4 +1,4 @@
-ghost use Rattle.std.specs.Prelude.{◌≤◌, ◌^◌, length, true, IfOk};
+ghost use Rattle.std.specs.Prelude.{◌≤◌, ◌^◌, length, true, IfOk, All};
 ghost use Rattle.cx_lex.specs.Machine.{at_mode, run};
 ghost use Rattle.cx_lex.specs.Lexed.{Answers, lexed};
 ghost use Rattle.cx_lex.specs.Order.{InOrder};
@@ -47,6 +47,7 @@ pub fn lex(alloc: Global, bytes: &[u8]) -> Result<List<Token>, LexFault>
     requires { length bytes.now ≤ 2 ^ 24 }
     ensures reading { Answers result (lexed bytes.now) }
     ensures in_order { IfOk result (λ tokens. InOrder 0 (length bytes.now) tokens) }
+    ensures inside { IfOk result (All (λ t. t.span.past ≤ length bytes.now)) }
     ensures whole { IfOk result (λ tokens. IsCut 0 bytes.now tokens) }
 {
     read(alloc, bytes)
