@@ -4,5 +4,6 @@ pub mod Meaning
 pub mod Typing
 pub mod Calls
 pub mod Symbols
+pub mod Pairs
 pub mod Kept
 pub mod KeptProps

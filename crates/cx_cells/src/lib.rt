@@ -6,6 +6,7 @@
 mod calls;
 mod cell;
 mod form;
+mod kept;
 mod range;
 mod rules;
 mod script;

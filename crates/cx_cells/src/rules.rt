@@ -3,6 +3,7 @@ ghost use Rattle.cx_cells.specs.KeptProps.{Kept-prop};
 
 use crate::calls::{AllocType, FnType, GlobalType};
 use crate::form::Form;
+use crate::kept::are_kept;
 use cx_base::List;
 
 /// The region types of a type file, each with its name, and the types of its functions, allocators
@@ -17,4 +18,36 @@ pub struct Rules {
     pub allocs: List<AllocType>,
     pub globals: List<GlobalType>,
     ghost kept: { Kept names forms fns allocs globals } by { Kept-prop names forms fns allocs globals },
+}
+
+impl Rules {
+    ghost use Rattle.std.specs.Prelude.{◌≡◌, ◌↔◌, IsSome, IfSome};
+
+    /// The rules of these parts. None, and the parts are dropped, exactly where they do not keep all
+    /// facts of `specs/Kept.antt`.
+    pub fn new(
+        names: List<List<u8>>,
+        forms: List<Form>,
+        fns: List<FnType>,
+        allocs: List<AllocType>,
+        globals: List<GlobalType>,
+    ) -> Option<Rules>
+        ensures exact { IsSome result ↔ Kept names forms fns allocs globals }
+        ensures names { IfSome result (λ r. r.names ≡ names) }
+        ensures forms { IfSome result (λ r. r.forms ≡ forms) }
+        ensures fns { IfSome result (λ r. r.fns ≡ fns) }
+        ensures allocs { IfSome result (λ r. r.allocs ≡ allocs) }
+        ensures globals { IfSome result (λ r. r.globals ≡ globals) }
+    {
+        if !are_kept(&names, &forms, &fns, &allocs, &globals) {
+            return None;
+        }
+        Some(Rules {
+            names,
+            forms,
+            fns,
+            allocs,
+            globals,
+        })
+    }
 }
