@@ -1,0 +1,5 @@
+pub mod Tables
+pub mod Digits
+pub mod Suffixes
+pub mod Types
+mod Examples

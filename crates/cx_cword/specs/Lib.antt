@@ -1,0 +1,6 @@
+pub mod Words
+pub mod Integers
+pub mod Fronts
+pub mod Characters
+pub mod Lexemes
+pub mod Reading

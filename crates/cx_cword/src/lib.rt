@@ -1,0 +1,14 @@
+//! What the tokens of a C file are for the grammar: keywords, punctuators, constants with their
+//! values, and names with their numbers.
+#![tactic(auto)]
+
+mod character;
+mod integer;
+mod lexeme;
+mod reading;
+mod word;
+
+pub use integer::Suffix;
+pub use lexeme::{Lexeme, LexemeKind, lexemes};
+pub use reading::{Stop, next, next_word, span_between, split};
+pub use word::{Keyword, Punctuator};

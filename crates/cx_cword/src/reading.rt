@@ -1,0 +1,86 @@
+ghost use Rattle.std.specs.Prelude.{◌≡◌};
+ghost use Rattle.cx_cword.specs.declared.lexeme.LexemeKind.TheVariants as l;
+ghost use Rattle.cx_cword.specs.declared.reading.Stop.TheVariants.{NoMemory as OutOfMemory};
+ghost use Rattle.cx_cword.specs.Reading.{Splits, Next};
+ghost use Rattle.cx_cword.specs.Reading as spec;
+
+use crate::lexeme::{Lexeme, LexemeKind};
+use crate::word::{Keyword, Punctuator};
+use cx_base::{NoMemory, Span};
+use std::alloc::{AllocError, AllocFailed};
+
+/// Why a reader gives nothing.
+#[derive(Clone, Copy, Debug, PartialEq, Eq)]
+pub enum Stop {
+    NoMemory,
+    /// The lexemes do not spell what is read.
+    Unread,
+}
+
+impl From<AllocError> for Stop {
+    ghost from_gives = { λ _ e. e ≡ OutOfMemory };
+
+    fn from(_e: AllocError) -> Stop {
+        Stop::NoMemory
+    }
+}
+
+impl<T: Drop> From<AllocFailed<T>> for Stop {
+    ghost from_gives = { λ _ e. e ≡ OutOfMemory };
+
+    fn from(_e: AllocFailed<T>) -> Stop {
+        Stop::NoMemory
+    }
+}
+
+impl From<NoMemory> for Stop {
+    ghost from_gives = { λ _ e. e ≡ OutOfMemory };
+
+    fn from(_e: NoMemory) -> Stop {
+        Stop::NoMemory
+    }
+}
+
+/// From one place up to another; empty where that does not come after it.
+pub fn span_between(first: u32, past: u32) -> Span
+    ensures { result ≡ spec.span_between first past }
+{
+    Span {
+        first,
+        past: if first < past { past } else { first },
+    }
+}
+
+/// The first lexeme and those after it.
+pub fn split(lexemes: &[Lexeme]) -> Option<(Lexeme, &[Lexeme])>
+    ensures { Splits result lexemes.now }
+{
+    match lexemes {
+        [] => None,
+        [o, rest @ ..] => Some((*o, rest)),
+    }
+}
+
+/// The first lexeme, where it is this punctuator, and those after it.
+pub fn next(mark: Punctuator, lexemes: &[Lexeme]) -> Option<(Lexeme, &[Lexeme])>
+    ensures { Next (l.Punctuator mark) result lexemes.now }
+{
+    let (o, rest) = split(lexemes)?;
+    if o.kind == LexemeKind::Punctuator(mark) {
+        Some((o, rest))
+    } else {
+        None
+    }
+}
+
+/// The first lexeme, where it is this word, and those after it.
+pub fn next_word(word: Keyword, lexemes: &[Lexeme]) -> Option<(Lexeme, &[Lexeme])>
+    ensures { Next (l.Keyword word) result lexemes.now }
+{
+    let (o, rest) = split(lexemes)?;
+    if o.kind == LexemeKind::Keyword(word) {
+        Some((o, rest))
+    } else {
+        None
+    }
+}
