@@ -1,0 +1,5 @@
+mod Places
+mod Undoing
+mod Ranks
+pub mod Same
+pub mod Whole
