@@ -1,0 +1,5 @@
+pub mod Modular
+pub mod Ranges
+pub mod Types
+pub mod Together
+mod Examples

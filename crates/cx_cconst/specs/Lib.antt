@@ -1,0 +1,3 @@
+pub mod Constants
+pub mod Walk
+pub mod Word
