@@ -1,0 +1,4 @@
+pub mod IntWords
+pub mod Expressions
+pub mod Kinds
+pub mod Reading
