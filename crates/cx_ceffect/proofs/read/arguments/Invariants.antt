@@ -1,0 +1,17 @@
+use Rattle.std.proofs.Common.{◌≡◌, ◌≤◌, []}
+use Rattle.std.specs.Prelude.{map}
+use Rattle.cx_ctree.specs.Exprs.{expr_tree}
+use Rattle.cx_ctree.specs.Path.{greatest, expr_path}
+use Rattle.cx_cname.specs.Known.{known_of}
+use Rattle.cx_ceffect.specs.Reading.{arguments_at}
+use Rattle.cx_ceffect.proofs.read.arguments.Given as goal
+
+abbrev pub invariant-each : goal.invariant-each
+invariant-each l = record {
+  told : arguments_at (known_of l.known) l.n l.left (map expr_tree l.all) l.rest ≡ arguments_at (known_of l.known) l.turns l.left [] l.fn.lexemes;
+  measured : l.height ≡ greatest expr_path (map expr_tree l.all);
+  low : l.height ≤ l.left;
+}
+
+abbrev pub decreases-each : goal.decreases-each
+decreases-each l = l.n
