@@ -1,0 +1,10 @@
+use Rattle.std.proofs.Common.{◌≡◌, length, map}
+use Rattle.cx_ctree.specs.Decls.{param_tree}
+use Rattle.cx_cdecl.specs.Reading as spec
+use Rattle.cx_cdecl.proofs.param.names_param.Given as goal
+
+abbrev pub decreases-loop-rest : goal.decreases-loop-rest
+decreases-loop-rest l = length l.rest
+
+abbrev pub invariant-loop-rest : goal.invariant-loop-rest
+invariant-loop-rest l = spec.names_param l.n (map param_tree l.rest) ≡ spec.names_param l.n (map param_tree l.params)

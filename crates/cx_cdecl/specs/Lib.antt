@@ -1,0 +1,5 @@
+pub mod Declarations
+pub mod Derived
+pub mod Fronts
+pub mod Kinds
+pub mod Reading
