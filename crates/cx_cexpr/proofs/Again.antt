@@ -2,7 +2,7 @@
 use Rattle.std.proofs.Common.{◌≡◌, ℕ, zero, suc, pred, ◌+◌, ◌-◌, ◌*◌, ◌<◌, ◌≤◌, Bool, true, false, cond, List, [], ◌∷◌, ◌++◌, length, Option, Some, None, refl, sym, ap, ◌∙◌, subst, append_assoc, append-nil, arith, length-append}
 use Rattle.std.proofs.lemmas.Bool.{eq-eqb}
 use Rattle.std.proofs.lemmas.Bool.Decides.{nat_tests}
-use Rattle.std.specs.Prelude.{nat_le, max, ◌&&◌}
+use Rattle.std.specs.Prelude.{nat_eq, nat_le, max, ◌&&◌}
 use Rattle.cx_ctree.specs.declared.expr.Binary.{Binary}
 use Rattle.cx_ctree.specs.Types.{TypeTree}
 use Rattle.cx_ctree.specs.Exprs as node
@@ -244,20 +244,24 @@ module _ (env : Known) where
   unary_goes n d [] rest h e = absurd (omega arith)
   unary_goes n d (o ∷ lead) rest h e = ap (dispatch n d o (lead ++ rest)) e.0
 
+  not_zero : (d : ℕ) → 0 < d → nat_eq d 0 ≡ false
+  not_zero d h = grind (arith, nat_tests)
+
   size_type_goes : (n d : ℕ) (o : Lexeme) (ts : List Lexeme) (t : Got TypeTree) (z : Got ExprTree) → IsWord k.SizeOf o → opens_type env ts ≡ true → enclosed_at env (d - 1) ts ≡ Some t → reading.size_of_type d o.span.first t ≡ Some z
       → unary_at env (suc (suc n)) d (o ∷ ts) ≡ Some z
   unfolding cond_at
   size_type_goes n d o ts t z is opens types made_so =
       ap (λ (v : LexemeKind). dispatch (suc n) d o ts (head_of v)) is
-      ∙ ap (λ (b : Bool). cond b (enclosed_at env (d - 1) ts >>= reading.size_of_type d o.span.first) (unary_at env n (d - 1) ts >>= reading.size_of_value d o.span.first)) opens
+      ∙ ap (λ (b : Bool). cond b (enclosed_at env (d - 1) ts >>= reading.size_of_type d o.span.first) (cond (nat_eq d 0) None (unary_at env n (d - 1) ts >>= reading.size_of_value d o.span.first))) opens
       ∙ ap (λ (r : Option (Got TypeTree)). r >>= reading.size_of_type d o.span.first) types ∙ made_so
 
-  size_value_goes : (n d : ℕ) (o : Lexeme) (ts : List Lexeme) (x z : Got ExprTree) → IsWord k.SizeOf o → opens_type env ts ≡ false → unary_at env n (d - 1) ts ≡ Some x → reading.size_of_value d o.span.first x ≡ Some z
+  size_value_goes : (n d : ℕ) (o : Lexeme) (ts : List Lexeme) (x z : Got ExprTree) → IsWord k.SizeOf o → opens_type env ts ≡ false → unary_at env n (d - 1) ts ≡ Some x → reading.size_of_value d o.span.first x ≡ Some z → 0 < d
       → unary_at env (suc (suc n)) d (o ∷ ts) ≡ Some z
   unfolding cond_at
-  size_value_goes n d o ts x z is opens read made_so =
+  size_value_goes n d o ts x z is opens read made_so some =
       ap (λ (v : LexemeKind). dispatch (suc n) d o ts (head_of v)) is
-      ∙ ap (λ (b : Bool). cond b (enclosed_at env (d - 1) ts >>= reading.size_of_type d o.span.first) (unary_at env n (d - 1) ts >>= reading.size_of_value d o.span.first)) opens
+      ∙ ap (λ (b : Bool). cond b (enclosed_at env (d - 1) ts >>= reading.size_of_type d o.span.first) (cond (nat_eq d 0) None (unary_at env n (d - 1) ts >>= reading.size_of_value d o.span.first))) opens
+      ∙ ap (λ (b : Bool). cond b None (unary_at env n (d - 1) ts >>= reading.size_of_value d o.span.first)) (not_zero d some)
       ∙ ap (λ (r : Option (Got ExprTree)). r >>= reading.size_of_value d o.span.first) read ∙ made_so
 
   -- a postfix expression is a primary one and the suffixes that reading goes on with
@@ -507,6 +511,7 @@ module _ (env : Known) where
   unfolding cond_at
   prefix_goes n d o mark ts rest x f is e filled read low =
       ap (λ (v : LexemeKind). dispatch n d o (ts ++ rest) (head_of v)) is ∙ ap (dispatch n d o (ts ++ rest)) e
+      ∙ ap (λ (b : Bool). cond b None (cast_at env n (d - 1) (ts ++ rest) >>= prefixed_at d o.span.first f)) (not_zero d (omega (arith, low)))
       ∙ ap (λ (r : Option (Got ExprTree)). r >>= prefixed_at d o.span.first f) read ∙ made_there d (with_prefix f x) (o ∷ ts) rest o.span.first (past_of ts) refl (past-append (o ∷ []) ts filled) low
 
 -- ---- each expression
@@ -571,6 +576,7 @@ module _ (env : Known) (few : Few env) where
         size_value_goes env n d o (ts ++ rest) (got_of ts x rest) (got_of (o ∷ ts) (untyped (o ∷ ts) (node.size_of_expr x)) rest) is (unary_no_cast h rest)
         (unary_again h n (d - 1) rest ends (omega (arith, enough)) (omega (arith, low)))
         (made_there d (node.size_of_expr x) (o ∷ ts) rest o.span.first (past_of ts) refl (past-append (o ∷ []) ts (unary_filled h)) low)
+        (omega (arith, low))
     unary_again (size_of_type {os = os} {t = t} o m' c is opens h close) n d rest ends enough low = size_there n d o m' c os rest t is opens h close (omega (arith, enough)) low
 
     suffixes : {front : List Lexeme} {t : ExprTree} → IsPostfix env front t → Suffixes env front t

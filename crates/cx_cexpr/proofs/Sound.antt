@@ -193,21 +193,25 @@ module _ (env : Known) where
       let c = bind_some (cast_at env n (d - 1) b.0.rest) (cast_to d first b.0) g b.2 in
       found_cast d b.0 c.0 g ts first begins (enclosed_sound env (d - 1) ts b.0 b.1) (sound b.0.rest c.0 c.1) c.2
 
+  not_none : {A : Type 0} (b : Bool) (o : Option A) (g : A) → cond b None o ≡ Some g → o ≡ Some g
+  not_none true o g e = absurd cc
+  not_none false o g e = e
+
   size_step : (n d : ℕ) → ((ts : List Lexeme) (g : Got ExprTree) → unary_at env n (d - 1) ts ≡ Some g → FoundExpr (IsUnary env) (d - 1) ts g)
       → (o : Lexeme) (ts : List Lexeme) (b : Bool) (g : Got ExprTree) → IsWord k.SizeOf o
-      → cond b (enclosed_at env (d - 1) ts >>= reading.size_of_type d o.span.first) (unary_at env n (d - 1) ts >>= reading.size_of_value d o.span.first) ≡ Some g → FoundExpr (IsUnary env) d (o ∷ ts) g
+      → cond b (enclosed_at env (d - 1) ts >>= reading.size_of_type d o.span.first) (cond (nat_eq d 0) None (unary_at env n (d - 1) ts >>= reading.size_of_value d o.span.first)) ≡ Some g → FoundExpr (IsUnary env) d (o ∷ ts) g
   size_step n d sound o ts true g is e =
       let b = bind_some (enclosed_at env (d - 1) ts) (reading.size_of_type d o.span.first) g e in
       found_size_type d b.0 g o ts is (enclosed_sound env (d - 1) ts b.0 b.1) b.2
   size_step n d sound o ts false g is e =
-      let b = bind_some (unary_at env n (d - 1) ts) (reading.size_of_value d o.span.first) g e in
+      let b = bind_some (unary_at env n (d - 1) ts) (reading.size_of_value d o.span.first) g (not_none (nat_eq d 0) (unary_at env n (d - 1) ts >>= reading.size_of_value d o.span.first) g e) in
       found_size d b.0 g o ts is (sound ts b.0 b.1) b.2
 
   unary_step : (n d : ℕ) (size postfix : Option (Got ExprTree)) → ((ts : List Lexeme) (g : Got ExprTree) → cast_at env n (d - 1) ts ≡ Some g → FoundExpr (IsCast env) (d - 1) ts g)
       → (o : Lexeme) (ts : List Lexeme) → (IsWord k.SizeOf o → (g : Got ExprTree) → size ≡ Some g → FoundExpr (IsUnary env) d (o ∷ ts) g) → ((g : Got ExprTree) → postfix ≡ Some g → FoundExpr (IsPostfix env) d (o ∷ ts) g)
       → (x : Head) (g : Got ExprTree) → head_of o.kind ≡ x → unary_by (cast_at env n (d - 1)) size postfix d o ts x ≡ Some g → FoundExpr (IsUnary env) d (o ∷ ts) g
   unary_step n d size postfix sound o ts sized after (h.Prefix f) g is e =
-      let b = bind_some (cast_at env n (d - 1) ts) (prefixed_at d o.span.first f) g e in
+      let b = bind_some (cast_at env n (d - 1) ts) (prefixed_at d o.span.first f) g (not_none (nat_eq d 0) (cast_at env n (d - 1) ts >>= prefixed_at d o.span.first f) g e) in
       found_prefix d b.0 g o ts f is (sound ts b.0 b.1) b.2
   unary_step n d size postfix sound o ts sized after h.SizeOf g is e = sized (head_size o.kind is) g e
   unary_step n d size postfix sound o ts sized after h.Other g is e = as_other d (o ∷ ts) g (λ os x h. no_prefix h) (after g e)

@@ -1,5 +1,7 @@
 -- What a turn does, where one is left, and where none is.
-use Rattle.std.proofs.Common.{◌≡◌, ℕ, zero, suc, ◌-◌, ◌<◌, List, Some, None, refl, arith, cond}
+use Rattle.std.proofs.Common.{◌≡◌, ℕ, zero, suc, ◌-◌, ◌<◌, false, List, Option, Some, None, refl, arith, cond}
+use Rattle.std.proofs.lemmas.Bool.Decides.{nat_tests}
+use Rattle.std.specs.Prelude.{nat_eq}
 use Rattle.cx_ctree.specs.Exprs.{ExprTree}
 use Rattle.cx_cword.specs.declared.lexeme.Lexeme.{Lexeme}
 use Rattle.cx_cword.specs.Reading.{◌>>=◌, at_lexeme}
@@ -7,6 +9,10 @@ use Rattle.cx_cname.specs.Known.{Known}
 use Rattle.cx_cexpr.specs.declared.kinds.Mark.TheVariants as m
 use Rattle.cx_cexpr.specs.Kinds.{fits, op_at, head_of, suffix_of, leaf_of}
 use Rattle.cx_cexpr.specs.Reading.{Got, enclosed_at, opens_type, leaf_by, suffixed_by, unary_by, size_of_type, size_of_value, cast_to, more_by, choice_by, cond_at, choice_at, binary_at, climb_at, more_at, cast_at, unary_at, size_at, suffix_at, primary_at}
+
+-- an operand is read where the tree may have one more node
+pub operand_left : {A : Type 0} (d : ℕ) (o : Option A) → 0 < d → cond (nat_eq d 0) None o ≡ o
+operand_left d o h = let off : nat_eq d 0 ≡ false = grind (arith, nat_tests) in rw off refl
 
 module _ (env : Known) where
   pub cond_turn : (n d : ℕ) (os : List Lexeme) → 0 < n → cond_at env n d os ≡ at_lexeme os None (λ o rest. binary_at env (n - 1) d 10 os >>= choice_at env (n - 1) d o.span.first)
@@ -54,7 +60,7 @@ module _ (env : Known) where
   unfolding cond_at
   unary_none n d os h = rw h refl
 
-  pub size_turn : (n d first : ℕ) (os : List Lexeme) → 0 < n → size_at env n d first os ≡ cond (opens_type env os) (enclosed_at env (d - 1) os >>= size_of_type d first) (unary_at env (n - 1) (d - 1) os >>= size_of_value d first)
+  pub size_turn : (n d first : ℕ) (os : List Lexeme) → 0 < n → size_at env n d first os ≡ cond (opens_type env os) (enclosed_at env (d - 1) os >>= size_of_type d first) (cond (nat_eq d 0) None (unary_at env (n - 1) (d - 1) os >>= size_of_value d first))
   unfolding cond_at
   size_turn zero d first os h = absurd (omega arith)
   size_turn (suc n) d first os h = let e : suc n - 1 ≡ n = omega arith in rw e refl

@@ -257,7 +257,7 @@ abbrev pub prefixed_at : ℕ → ℕ → Prefix → Got ExprTree → Option (Got
 prefixed_at d first f x = made d (spelled first x.past (with_prefix f x.tree)) x.past x.rest
 
 abbrev pub unary_by : (List Lexeme → Option (Got ExprTree)) → Option (Got ExprTree) → Option (Got ExprTree) → ℕ → Lexeme → List Lexeme → Head → Option (Got ExprTree)
-unary_by inner size postfix d o rest (h.Prefix f) = inner rest >>= prefixed_at d o.span.first f
+unary_by inner size postfix d o rest (h.Prefix f) = if nat_eq d 0 then None else (inner rest >>= prefixed_at d o.span.first f)
 unary_by inner size postfix d o rest h.SizeOf = size
 unary_by inner size postfix d o rest h.Other = postfix
 
@@ -319,7 +319,7 @@ unfoldable mutual
   -- after the word sizeof
   pub size_at : Known → ℕ → ℕ → ℕ → List Lexeme → Option (Got ExprTree)
   size_at env zero d first os = None
-  size_at env (suc n) d first os = if opens_type env os then (enclosed_at env (d - 1) os >>= size_of_type d first) else (unary_at env n (d - 1) os >>= size_of_value d first)
+  size_at env (suc n) d first os = if opens_type env os then (enclosed_at env (d - 1) os >>= size_of_type d first) else (if nat_eq d 0 then None else (unary_at env n (d - 1) os >>= size_of_value d first))
 
   pub suffix_at : Known → ℕ → ℕ → ℕ → Got ExprTree → Option (Got ExprTree)
   suffix_at env zero d first x = None

@@ -211,7 +211,7 @@ pub fn cast<'a>(
 
 /// A unary expression (C11 6.5.3).
 #[cycle(expr)]
-#[tactic(auto, using(crate::proofs::Turns::unary_turn, crate::proofs::Turns::unary_none))]
+#[tactic(auto, using(crate::proofs::Turns::unary_turn, crate::proofs::Turns::unary_none, crate::proofs::Turns::operand_left))]
 pub fn unary<'a>(
     alloc: Global,
     known: &Unit,
@@ -230,6 +230,9 @@ pub fn unary<'a>(
         None => Err(Stop::Unread),
         Some((o, rest)) => match head_of(o.kind) {
             Head::Prefix(prefix) => {
+                if left == 0 {
+                    return Err(Stop::Unread);
+                }
                 let x = cast(alloc, known, turns - 1, left.saturating_sub(1), rest)?;
                 prefixed(alloc, left, o.span.first, prefix, x)
             }
@@ -244,7 +247,7 @@ pub fn unary<'a>(
 
 /// Goes on after the word `sizeof`, which begins at `first`.
 #[cycle(expr)]
-#[tactic(auto, using(crate::proofs::Turns::size_turn, crate::proofs::Turns::size_none))]
+#[tactic(auto, using(crate::proofs::Turns::size_turn, crate::proofs::Turns::size_none, crate::proofs::Turns::operand_left))]
 fn size<'a>(
     alloc: Global,
     known: &Unit,
@@ -265,6 +268,9 @@ fn size<'a>(
         let t = enclosed_type(alloc, known, below, lexemes)?;
         size_of_type(left, first, t)
     } else {
+        if left == 0 {
+            return Err(Stop::Unread);
+        }
         let x = unary(alloc, known, turns - 1, below, lexemes)?;
         size_of_value(alloc, left, first, x)
     }
