@@ -117,7 +117,7 @@ init_there {earlier} {env} {t = t} (function_declared {a = a} {o = o} {f = f} {k
     bind_goes (declarator_at turns env t (a ++ rest)) (λ x. declared_by turns earlier false x.known x.rest x.tree.decl) (declared_of (proto f) o known rest) (function_there h turns rest (closes_keyword rest (item_closes rest ends)) fit room)
     ∙ if_goes (may_be known earlier f.name (function_type f)) (Some (record { tree = proto f; known = known; rest = rest })) (may_be_function known earlier f.name f.result (map (λ p. p.ctype) f.params) may)
 
-function_grows : {earlier : List DeclTree} {env known : Known} {t : TypeTree} {a : List Lexeme} {o : Lexeme} {f : SignatureTree} → IsFunction earlier env t a o f known → Grows env known (length a)
+pub function_grows : {earlier : List DeclTree} {env known : Known} {t : TypeTree} {a : List Lexeme} {o : Lexeme} {f : SignatureTree} → IsFunction earlier env t a o f known → Grows env known (length a)
 function_grows {env = env} (function_of {known = known} {a = a} {c = c} {d = d} o u e n h low is opens q shuts i) =
     grows_more env known (length c) (length ((a ++ o ∷ u ∷ c) ++ e ∷ d)) (param_list_grows q) (let f = length-append (a ++ o ∷ u ∷ c) (e ∷ d) in let g = length-append a (o ∷ u ∷ c) in omega (arith, f, g))
 

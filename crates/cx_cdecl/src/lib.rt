@@ -15,14 +15,14 @@ ghost use Rattle.cx_cword.specs.Lexemes as words;
 ghost use Rattle.cx_cdecl.specs.Fronts.{LongestType, NoType, LongestSpecs, NoSpecs, LongestDeclarator, NoDeclarator, OnlyDeclaration, NoDeclaration};
 
 mod attributes;
-mod declaration;
-mod declarator;
+pub mod declaration;
+pub mod declarator;
 mod enumerator;
-mod front;
-mod kinds;
-mod member;
+pub mod front;
+pub mod kinds;
+pub mod member;
 mod param;
-mod specifier;
+pub mod specifier;
 
 use crate::declaration::without_body;
 use crate::front::{front_declarator, front_specs, height_within, next_place, shallow, whole};

@@ -1,8 +1,8 @@
-mod Lists
-mod Turns
-mod Shapes
-mod Parts
-mod Values
+pub mod Lists
+pub mod Turns
+pub mod Shapes
+pub mod Parts
+pub mod Values
 pub mod Sound
-mod Follows
+pub mod Follows
 pub mod Again
