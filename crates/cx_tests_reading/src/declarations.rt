@@ -1,5 +1,4 @@
-use crate::units::{declare, sides};
-use cx_tests_shown::items_text;
+use crate::units::{items_of, sides};
 use std::alloc::Global;
 use std::process::Abort;
 use std::test::Fail;
@@ -208,17 +207,11 @@ long const int x;
 int f(int x, int a[x]);
 struct s { void v; };";
 
-/// What the text declares, item by item.
-fn declared(rt: &impl Abort, alloc: Global, text: &str) -> Result<String, Fail> {
-    let found = declare(rt, alloc, text)?;
-    Ok(items_text(alloc, &found.unit)?)
-}
-
 /// Compares what each line declares with what is expected.
 fn check(rt: &impl Abort, alloc: Global, table: &str) -> Result<(), Fail> {
     for line in table.lines() {
         let (text, expected) = sides(rt, line);
-        let found = declared(rt, alloc, text)?;
+        let found = items_of(rt, alloc, text)?;
         assert_eq!(rt; found.as_str(), expected);
     }
     Ok(())
@@ -239,12 +232,16 @@ fn declarations(rt: HostRuntime) -> Result<(), Fail> {
     Ok(())
 }
 
-#[test]
-fn items_that_are_passed_over(rt: HostRuntime) -> Result<(), Fail> {
-    check(&rt, rt.alloc(), PASSED_OVER)?;
-    for text in ALSO_PASSED_OVER.lines() {
-        let found = declared(&rt, rt.alloc(), text)?;
+fn check_passed(rt: &impl Abort, alloc: Global, table: &str) -> Result<(), Fail> {
+    for text in table.lines() {
+        let found = items_of(rt, alloc, text)?;
         assert_eq!(rt; found.as_str(), "passed");
     }
     Ok(())
+}
+
+#[test]
+fn items_that_are_passed_over(rt: HostRuntime) -> Result<(), Fail> {
+    check(&rt, rt.alloc(), PASSED_OVER)?;
+    check_passed(&rt, rt.alloc(), ALSO_PASSED_OVER)
 }

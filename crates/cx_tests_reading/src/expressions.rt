@@ -1,11 +1,11 @@
 use crate::cases::{CASTS, LEAVES, LEVELS, PREFIXES, SPANS, SUFFIXES};
-use crate::units::{Declared, declare, sides};
+use crate::units::{Declared, declare, made, sides};
 use cx_base::Span;
 use cx_cexpr::cond;
 use cx_ctree::{Expr, Unit};
 use cx_cword::Lexeme;
 use cx_tests_shown::expr_text;
-use std::alloc::Global;
+use std::alloc::{AllocError, Global};
 use std::process::Abort;
 use std::test::Fail;
 
@@ -63,39 +63,80 @@ fn expression(rt: &impl Abort, alloc: Global, found: &Declared) -> Option<Expr> 
     whole(alloc, &found.unit, 16 * rest.len() + 5, rest)
 }
 
+fn shape_after(rt: &impl Abort, alloc: Global, found: &Declared) -> Result<String, AllocError> {
+    match expression(rt, alloc, found) {
+        Some(e) => expr_text(alloc, &found.unit, &e),
+        None => format!(in alloc; "no expression"),
+    }
+}
+
+fn shape_in(rt: &impl Abort, alloc: Global, whole: &str) -> Result<String, Fail> {
+    let found = declare(rt, alloc, whole)?;
+    made(shape_after(rt, alloc, &found))
+}
+
 /// The shape of the expression that the text is.
 fn shape(rt: &impl Abort, alloc: Global, text: &str) -> Result<String, Fail> {
     let whole = format!(in alloc; "{BEFORE}{text}")?;
-    let found = declare(rt, alloc, &whole)?;
-    match expression(rt, alloc, &found) {
-        Some(e) => Ok(expr_text(alloc, &found.unit, &e)?),
-        None => Ok(format!(in alloc; "no expression")?),
+    shape_in(rt, alloc, &whole)
+}
+
+fn span_after(rt: &impl Abort, alloc: Global, found: &Declared) -> Option<Span> {
+    match expression(rt, alloc, found) {
+        Some(e) => Some(e.span),
+        None => None,
     }
 }
 
-fn cut(text: &str, span: Span) -> &str {
-    match text.get(span.first as usize..span.past as usize) {
-        Some(piece) => piece,
-        None => "no piece",
+fn span_in(rt: &impl Abort, alloc: Global, whole: &str) -> Result<Option<Span>, Fail> {
+    let found = declare(rt, alloc, whole)?;
+    Ok(span_after(rt, alloc, &found))
+}
+
+fn cut(text: &str, span: Option<Span>) -> &str {
+    match span {
+        Some(span) => match text.get(span.first as usize..span.past as usize) {
+            Some(piece) => piece,
+            None => "no piece",
+        },
+        None => "no expression",
     }
 }
 
-/// The piece of the text at its place.
-fn piece(rt: &impl Abort, alloc: Global, text: &str) -> Result<String, Fail> {
+/// Compares the piece of the text at the place of its expression with what is expected.
+fn check_span(rt: &impl Abort, alloc: Global, text: &str, expected: &str) -> Result<(), Fail> {
     let whole = format!(in alloc; "{BEFORE}{text}")?;
-    let found = declare(rt, alloc, &whole)?;
-    match expression(rt, alloc, &found) {
-        Some(e) => Ok(format!(in alloc; "{}", cut(&whole, e.span))?),
-        None => Ok(format!(in alloc; "no expression")?),
-    }
+    let span = span_in(rt, alloc, &whole)?;
+    assert_eq!(rt; cut(&whole, span), expected);
+    Ok(())
+}
+
+fn check_shape(rt: &impl Abort, alloc: Global, text: &str, expected: &str) -> Result<(), Fail> {
+    let found = shape(rt, alloc, text)?;
+    assert_eq!(rt; found.as_str(), expected);
+    Ok(())
 }
 
 /// Compares each line's expression with its shape.
 fn check(rt: &impl Abort, alloc: Global, table: &str) -> Result<(), Fail> {
     for line in table.lines() {
         let (text, expected) = sides(rt, line);
-        let found = shape(rt, alloc, text)?;
-        assert_eq!(rt; found.as_str(), expected);
+        check_shape(rt, alloc, text, expected)?;
+    }
+    Ok(())
+}
+
+fn check_spans(rt: &impl Abort, alloc: Global, table: &str) -> Result<(), Fail> {
+    for line in table.lines() {
+        let (text, expected) = sides(rt, line);
+        check_span(rt, alloc, text, expected)?;
+    }
+    Ok(())
+}
+
+fn check_left_out(rt: &impl Abort, alloc: Global, table: &str) -> Result<(), Fail> {
+    for text in table.lines() {
+        check_shape(rt, alloc, text, "no expression")?;
     }
     Ok(())
 }
@@ -111,19 +152,10 @@ fn shapes(rt: HostRuntime) -> Result<(), Fail> {
 
 #[test]
 fn spans(rt: HostRuntime) -> Result<(), Fail> {
-    for line in SPANS.lines() {
-        let (text, expected) = sides(&rt, line);
-        let found = piece(&rt, rt.alloc(), text)?;
-        assert_eq!(rt; found.as_str(), expected);
-    }
-    Ok(())
+    check_spans(&rt, rt.alloc(), SPANS)
 }
 
 #[test]
 fn constructs_left_out(rt: HostRuntime) -> Result<(), Fail> {
-    for text in LEFT_OUT.lines() {
-        let found = shape(&rt, rt.alloc(), text)?;
-        assert_eq!(rt; found.as_str(), "no expression");
-    }
-    Ok(())
+    check_left_out(&rt, rt.alloc(), LEFT_OUT)
 }

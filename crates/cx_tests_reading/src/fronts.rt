@@ -1,4 +1,4 @@
-use crate::units::{Declared, are_inside, declare, sides};
+use crate::units::{are_inside, declare, sides};
 use cx_base::{CInt, Token};
 use cx_cdecl::{DeclaratorRead, SpecsRead, TypeRead, read_declarator, read_specs, read_type};
 use cx_ctree::{CType, Unit};
@@ -156,21 +156,39 @@ fn type_at(
     Ok(type_text_of(alloc, at, &read)?)
 }
 
+fn front_at(
+    rt: &impl Abort,
+    alloc: Global,
+    part: Part,
+    bytes: &[u8],
+    tokens: &[Token],
+    at: usize,
+    unit: &mut Unit,
+) -> Result<String, Fail> {
+    match part {
+        Part::Specifiers => specs_at(rt, alloc, bytes, tokens, at, unit),
+        Part::Declarator => declarator_at(rt, alloc, bytes, tokens, at, unit),
+        Part::Type => type_at(rt, alloc, bytes, tokens, at, unit),
+    }
+}
+
+fn front_in(rt: &impl Abort, alloc: Global, part: Part, whole: &str) -> Result<String, Fail> {
+    let mut d = declare(rt, alloc, whole)?;
+    front_at(
+        rt,
+        alloc,
+        part,
+        whole.as_bytes(),
+        d.tokens.as_slice(),
+        d.read,
+        &mut d.unit,
+    )
+}
+
 /// What the text after the declarations is read as.
 fn front(rt: &impl Abort, alloc: Global, part: Part, text: &str) -> Result<String, Fail> {
     let whole = format!(in alloc; "{BEFORE}{text}")?;
-    let Declared {
-        mut unit,
-        tokens,
-        read: at,
-        ..
-    } = declare(rt, alloc, &whole)?;
-    let bytes = whole.as_bytes();
-    match part {
-        Part::Specifiers => specs_at(rt, alloc, bytes, tokens.as_slice(), at, &mut unit),
-        Part::Declarator => declarator_at(rt, alloc, bytes, tokens.as_slice(), at, &mut unit),
-        Part::Type => type_at(rt, alloc, bytes, tokens.as_slice(), at, &unit),
-    }
+    front_in(rt, alloc, part, &whole)
 }
 
 /// Compares what each line's text is read as with what is expected.

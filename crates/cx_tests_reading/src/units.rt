@@ -6,7 +6,8 @@ use cx_citem::{next_item, number_names};
 use cx_ctree::{Item, Unit};
 use cx_cword::{Lexeme, lexemes};
 use cx_lex::lex;
-use std::alloc::Global;
+use cx_tests_shown::items_text;
+use std::alloc::{AllocError, Global};
 use std::process::Abort;
 use std::test::Fail;
 
@@ -114,4 +115,15 @@ pub fn declare(rt: &impl Abort, alloc: Global, text: &str) -> Result<Declared, F
         lexemes: found,
         read,
     })
+}
+
+/// The text, where there was memory for it.
+pub fn made(text: Result<String, AllocError>) -> Result<String, Fail> {
+    Ok(text?)
+}
+
+/// What the text declares, item by item.
+pub fn items_of(rt: &impl Abort, alloc: Global, text: &str) -> Result<String, Fail> {
+    let found = declare(rt, alloc, text)?;
+    made(items_text(alloc, &found.unit))
 }
