@@ -1,0 +1,11 @@
+pub mod Spans
+pub mod Words
+pub mod Declared
+pub mod Defined
+pub mod Answered
+pub mod Totals
+pub mod Taking
+pub mod Once
+pub mod Only
+pub mod Steps
+pub mod Bodies

@@ -1,0 +1,4 @@
+pub mod Reads
+pub mod Faults
+pub mod Reading
+pub mod Definitions
