@@ -19,6 +19,16 @@ int one(void) {
 }
 ";
 
+const GET: &str = "struct vec { unsigned long len; long *data; };
+long get(struct vec *v, unsigned long i) {
+  if (i <= v->len) return v->data[i];
+  return -1;
+}
+";
+
+const GET_ITEMS: &str =
+    "types; get(*#0, u64) i64 {if ((i <= (v->len))) {return ((v->data)[i]);}return (-1);}";
+
 // A page as a preprocessor leaves it.
 const PAGE: &str = "# 0 \"queue.c\"
 # 1 \"/usr/include/stdlib.h\" 1 3 4
@@ -165,6 +175,7 @@ fn whole_files(rt: HostRuntime) -> Result<(), Fail> {
         PREPROCESSED,
         "passed; one() i32 {return 1;}",
     )?;
+    check_text(&rt, rt.alloc(), GET, GET_ITEMS)?;
     check_text(&rt, rt.alloc(), PAGE, PAGE_ITEMS)
 }
 
