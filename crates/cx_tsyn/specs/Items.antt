@@ -111,12 +111,12 @@ alloc_tree f = record {
 abbrev pub global_tree : GlobalItem → GlobalItemTree
 global_tree g = record { span = g.span; name = word_tree g.name; region = word_tree g.region; args = g.args }
 
-abbrev pub item_tree : TypeItem → TypeItemTree
-item_tree (i.Region r) = region (region_tree r)
-item_tree (i.Func f) = func (func_tree f)
-item_tree (i.Alloc f) = alloc (alloc_tree f)
-item_tree (i.Global g) = global (global_tree g)
+abbrev pub type_item_tree : TypeItem → TypeItemTree
+type_item_tree (i.Region r) = region (region_tree r)
+type_item_tree (i.Func f) = func (func_tree f)
+type_item_tree (i.Alloc f) = alloc (alloc_tree f)
+type_item_tree (i.Global g) = global (global_tree g)
 
 -- the type file
 abbrev pub surface_tree : Surface → SurfaceTree
-surface_tree s = record { items = map item_tree s.items }
+surface_tree s = record { items = map type_item_tree s.items }
