@@ -1,5 +1,5 @@
 pub mod Tables
-pub mod Digits
+pub mod DigitLemmas
 pub mod Suffixes
 pub mod Types
 mod Examples

@@ -4,7 +4,7 @@ use Rattle.std.specs.Prelude.{nat_lt, ◌&&◌, not, ◌||◌, Option, Some, Non
 use Rattle.std.proofs.lemmas.Bool.Decides.{nat_tests}
 use Rattle.cx_cword.specs.declared.integer.Suffix.{Suffix}
 use Rattle.cx_cword.specs.Integers.{may_be_int, may_be_unsigned_int, may_be_long, may_be_unsigned_long, type_of_value, typed_by}
-use Rattle.cx_cword.proofs.Digits.{Alike, either}
+use Rattle.cx_cword.proofs.DigitLemmas.{Alike, either}
 
 not_below : (v n : ℕ) → n ≤ v → nat_lt v n ≡ false
 not_below v n h = grind (arith, nat_tests)

@@ -95,7 +95,7 @@ fn first(text: &[u8]) -> Option<(u8, &[u8])>
     }
 }
 
-#[tactic(auto, using(crate::proofs::Digits::kept, crate::proofs::Digits::product))]
+#[tactic(auto, using(crate::proofs::DigitLemmas::kept, crate::proofs::DigitLemmas::product))]
 fn grown(base: u8, value: u128, digit: u8) -> u128
     requires base { (8 ≤ base) × (base ≤ 16) }
     requires small { value ≤ 2 ^ 64 * 16 + 16 }
@@ -112,7 +112,7 @@ fn grown(base: u8, value: u128, digit: u8) -> u128
 
 /// The number that the digits at the front write, as far as it is below 2^64, and the text after
 /// them. A number from 2^64 on is answered by one from 2^64 on.
-#[tactic(auto, using(crate::proofs::Digits::next))]
+#[tactic(auto, using(crate::proofs::DigitLemmas::next))]
 pub fn digits(base: u8, text: &[u8]) -> (u128, &[u8])
     requires base { (8 ≤ base) × (base ≤ 16) }
     ensures value { min result.0 (2 ^ 64) ≡ min (spec.digits_of base 0 text.now).0 (2 ^ 64) }

@@ -8,7 +8,7 @@ mod lexeme;
 mod reading;
 mod word;
 
-pub use integer::Suffix;
+pub use integer::{Suffix, digits, int_of};
 pub use lexeme::{Lexeme, LexemeKind, lexemes};
 pub use reading::{Stop, next, next_word, span_between, split};
-pub use word::{Keyword, Punctuator};
+pub use word::{Keyword, Punctuator, keyword_of, look_up, punctuator_of};

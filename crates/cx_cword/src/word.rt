@@ -236,6 +236,7 @@ pub fn same_text(a: &[u8], b: &[u8]) -> bool
     a == b
 }
 
+/// What the table has for the text: that of its first entry with this text, if there is one.
 pub fn look_up<T: Copy>(mut table: &[(&[u8], T)], text: &[u8]) -> Option<T>
     ensures { result ≡ spec.look_up (map (λ k. (k.0.now, k.1)) table.entry.now) text.now }
 {

@@ -1,7 +1,7 @@
 use Rattle.std.proofs.Common.{◌≡◌, ◌+◌, ◌*◌, ◌^◌, sym, ap, ◌∙◌}
 use Rattle.std.specs.Prelude.{min}
 use Rattle.cx_cword.specs.Integers.{digit_value, digits_of}
-use Rattle.cx_cword.proofs.Digits.{next}
+use Rattle.cx_cword.proofs.DigitLemmas.{next}
 use Rattle.cx_cword.proofs.integer.digits.Goals as goal
 
 pub loop-b-preserved : goal.loop-b-preserved

@@ -1,6 +1,6 @@
 use Rattle.std.proofs.Common.{◌≤◌, ◌+◌, ◌*◌, ◌^◌, length}
 use Rattle.cx_cword.specs.Integers.{digits_of}
-use Rattle.cx_cword.proofs.Digits.{Same}
+use Rattle.cx_cword.proofs.DigitLemmas.{Same}
 use Rattle.cx_cword.proofs.integer.digits.Given as goal
 
 abbrev pub invariant-loop-b : goal.invariant-loop-b
