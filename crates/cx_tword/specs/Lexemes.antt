@@ -18,15 +18,15 @@ use Rattle.cx_tword.specs.Words.{type_word_of, number_after}
 abbrev pub any_kind : ℕ → TypeLexemeKind
 any_kind k = if nat_le 1 k && nat_le k 4096 then l.AnyBytes k else l.Other
 
--- so many bytes has an integer of C
+-- the sizes of the integers of C, in bytes
 abbrev pub is_int_size : ℕ → Bool
 is_int_size k = (k == 1) || (k == 2) || (k == 4) || (k == 8)
 
--- `u` and a number K
+-- `u` and a number K: an unsigned number of K bytes
 abbrev pub unsigned_kind : ℕ → TypeLexemeKind
 unsigned_kind k = if is_int_size k then l.Unsigned k else l.Other
 
--- `s` and a number K
+-- `s` and a number K: a signed number of K bytes
 abbrev pub signed_kind : ℕ → TypeLexemeKind
 signed_kind k = if is_int_size k then l.Signed k else l.Other
 
@@ -47,6 +47,7 @@ abbrev pub punctuator_kind : Option Punctuator → TypeLexemeKind
 punctuator_kind None = l.Other
 punctuator_kind (Some p) = l.Punctuator p
 
+-- what a token of this kind and with this text is
 abbrev pub kind_of : TokenKind → List ℕ → TypeLexemeKind
 kind_of t.Name text = name_kind (type_word_of text) (number_after (codes "any") text) (number_after (codes "u") text) (number_after (codes "s") text)
 kind_of t.Number text = number_kind (int_of text)
