@@ -16,6 +16,7 @@ pub enum UnitFault {
     /// end.
     #[error("the token at byte {} is not closed", .0.first)]
     Unclosed(Span),
+    /// The allocator refused.
     #[error("out of memory")]
     NoMemory,
 }
