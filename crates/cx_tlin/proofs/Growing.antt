@@ -1,0 +1,14 @@
+-- Lists that grow at their ends, and lists of lexemes that are pieces of a text.
+use Rattle.std.proofs.Common.{◌≡◌, ◌≤◌, ℕ, List, [], ◌∷◌, ◌++◌, length, refl, ap, subst}
+use Rattle.std.specs.Prelude.{map}
+use Rattle.std.proofs.lemmas.List.Elements.{All-tail}
+use Rattle.cx_tword.specs.declared.lexeme.TypeLexeme.{TypeLexeme}
+use Rattle.cx_tlin.specs.Lexemes.{Inside}
+
+pub map_push : {A B : Type 0} (f : A → B) (xs : List A) (x : A) → map f (xs ++ x ∷ []) ≡ map f xs ++ f x ∷ []
+map_push f [] x = refl
+map_push f (y ∷ xs) x = ap (λ (v : List _). f y ∷ v) (map_push f xs x)
+
+-- lexemes that are pieces of a text
+pub inside_rest : (bytes : List ℕ) (os : List TypeLexeme) (o : TypeLexeme) (rest : List TypeLexeme) → os ≡ o ∷ rest → Inside bytes os → Inside bytes rest
+inside_rest bytes os o rest e h = All-tail (λ o. o.span.past ≤ length bytes) o rest (subst (Inside bytes) e h)

@@ -1,0 +1,15 @@
+use Rattle.std.proofs.Common.{◌≡◌, []}
+use Rattle.std.specs.Prelude.{length, map}
+use Rattle.cx_tsyn.specs.Lins.{lin_tree}
+use Rattle.cx_tlin.specs.Lexemes.{Inside}
+use Rattle.cx_tlin.specs.Reading.{lin_at, list_at}
+use Rattle.cx_tlin.proofs.lists.read_lins.Given as goal
+
+abbrev pub invariant-each : goal.invariant-each
+invariant-each l = record {
+  told : list_at (lin_at l.bytes) l.n (map lin_tree l.tree) l.rest ≡ list_at (lin_at l.bytes) (length l.lexemes) [] l.lexemes;
+  inside : Inside l.bytes l.rest;
+}
+
+abbrev pub decreases-each : goal.decreases-each
+decreases-each l = l.n

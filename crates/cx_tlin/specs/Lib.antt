@@ -1,0 +1,5 @@
+pub mod Lexemes
+pub mod Lins
+pub mod Kinds
+pub mod Reading
+pub mod Laws
