@@ -1,0 +1,11 @@
+pub mod Places
+pub mod Numbers
+pub mod Regions
+pub mod Telling
+pub mod Bindings
+pub mod Forms
+pub mod Readable
+pub mod Firsts
+pub mod Passed
+pub mod MetArgs
+pub mod Extending

@@ -1,0 +1,7 @@
+use Rattle.std.proofs.Common.{sym}
+use Rattle.cx_member.proofs.MetArgs.{fn_reads}
+use Rattle.cx_member.proofs.meeting.meets.Goals as goal
+
+pub fn_meets-requires-clause-reads : goal.fn_meets-requires-clause-reads
+fn_meets-requires-clause-reads c =
+    fn_reads c.args.rules.now.forms c.args.rules.now.fns c.args.rules.now.kept.each_fn c.args.f c.in-Some.called.now (sym c.in-Some.ensures)
