@@ -2,4 +2,6 @@
 #![tactic(auto)]
 
 #[cfg(test)]
+mod lins;
+#[cfg(test)]
 mod words;

@@ -10,7 +10,7 @@ use std::process::Abort;
 use std::test::Fail;
 
 /// What the tokens of the text are for the grammar.
-fn lexemes_of(rt: &impl Abort, alloc: Global, text: &str) -> Result<List<TypeLexeme>, Fail> {
+pub fn lexemes_of(rt: &impl Abort, alloc: Global, text: &str) -> Result<List<TypeLexeme>, Fail> {
     assert!(rt; text.len() <= 1000);
     let tokens = lex(alloc, text.as_bytes())?;
     Ok(type_lexemes(alloc, text.as_bytes(), tokens.as_slice())?)
