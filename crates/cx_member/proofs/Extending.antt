@@ -35,9 +35,6 @@ extends_length before after x =
     let e : length (layout_of after) ≡ length (layout_of before ++ x.more) = ap length x.same in
     omega (arith, length-map after extent_of, length-map before extent_of, length-append (layout_of before) x.more)
 
-pub too_short : (before after : List Region) → length after < length before → Extends before after → ⊥
-too_short before after l x = omega (arith, extends_length before after x)
-
 pub same_in : (before after : List Region) (i : ℕ) → i < length before → Extends before after → AreSameAt before after i
 same_in before after i l x =
     let n = extends_length before after x in

@@ -1,26 +1,13 @@
 -- The first region that does not hold its type is one region, and there is none where all hold theirs.
-use Rattle.std.specs.Prelude.{◌≡◌, ◌↔◌, ℕ, ◌<◌, List, length, All, slice_get, IsSomeAnd, MatchOption, Option, Some, None}
+use Rattle.std.specs.Prelude.{◌≡◌, ◌↔◌, ℕ, ◌<◌, List, All, slice_get, IsSomeAnd, MatchOption, Option, Some, None}
 use Rattle.std.proofs.Common.{arith, refl, ap, subst}
-use Rattle.std.proofs.lemmas.Option.{get_or_from_slice_get, slice_get_within, slice_get-get_or, same_Some}
+use Rattle.std.proofs.lemmas.Option.{get_or_from_slice_get, slice_get_within, same_Some}
 use Rattle.cx_base.specs.Memory.{Valid}
 use Rattle.cx_base.specs.declared.memory.Region.{Region}
 use Rattle.cx_cells.specs.Layouts.{layout_of}
 use Rattle.cx_cells.specs.Typing.{RegionHolds, Typed}
 use Rattle.cx_cells.specs.declared.form.Form.{Form}
 use Rattle.cx_member.specs.First.{IsFirstUntyped}
-use Rattle.cx_member.proofs.Places.{there}
-
-fails_by : {X : Type 0} (P : X → Type 0) (o : Option X) (x : X) → o ≡ Some x → (IsSomeAnd o P → ⊥) → IsSomeAnd o (λ y. P y → ⊥)
-fails_by P None x e h = absurd (cc)
-fails_by P (Some y) x e h = h
-
--- an item that is not so is one that fails
-pub fails_at : {X : Type 0} (P : X → Type 0) (xs : List X) (i : ℕ) → i < length xs → (IsSomeAnd (slice_get xs i) P → ⊥) → IsSomeAnd (slice_get xs i) (λ y. P y → ⊥)
-fails_at P xs i l h = let t = there xs i l in fails_by P (slice_get xs i) t.0 t.1 h
-
--- what holds at each place holds of all
-pub all_at : {X : Type 0} (P : X → Type 0) (xs : List X) → ((k : ℕ) → k < length xs → IsSomeAnd (slice_get xs k) P) → All P xs
-all_at P xs h k d l = subst (λ o. IsSomeAnd o P) (slice_get-get_or xs k d l) (h k l)
 
 not_all_by : {X : Type 0} (P : X → Type 0) (xs : List X) (i : ℕ) (o : Option X) → slice_get xs i ≡ o → IsSomeAnd o (λ y. P y → ⊥) → All P xs → ⊥
 not_all_by P xs i None e h a = h

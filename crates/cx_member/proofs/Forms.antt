@@ -1,37 +1,17 @@
 -- Heads and tails: what holds with the values that are bound, and where elements stand.
-use Rattle.std.specs.Prelude.{◌≡◌, ◌↔◌, ℕ, ℤ, pos, negsuc, Bool, IsTrue, ◌+◌, ◌*◌, ◌<◌, ◌≤◌, ◌^◌, List, [], ◌∷◌, ◌++◌, drop, length, replicate, Any, unsigned_abs, Option, Some, None, option_map}
+use Rattle.std.specs.Prelude.{◌≡◌, ◌↔◌, ℕ, ℤ, pos, negsuc, Bool, IsTrue, ◌*◌, ◌<◌, ◌≤◌, List, ◌++◌, drop, length, Some, option_map}
 use Rattle.std.specs.List.{AllByRecursion}
-use Rattle.std.proofs.Common.{arith, refl, sym, ap, ◌∙◌, subst, length-append}
+use Rattle.std.proofs.Common.{arith, refl, sym, ap, subst}
 use Rattle.std.proofs.lemmas.Int.{ints}
 use Rattle.std.proofs.Math.Nat.{mul-le-mul_left}
-use Rattle.std.proofs.lemmas.List.{length-replicate}
-use Rattle.std.proofs.lemmas.List.Elements.{All-append, All-replicate, All-weaker}
 use Rattle.cx_base.specs.declared.memory.Region.{Region}
-use Rattle.cx_cells.specs.Kept.{symbols_of}
-use Rattle.cx_cells.specs.Layouts.{Extent, layout_of}
-use Rattle.cx_cells.specs.Meaning.{PartHolds, HeadHolds, BranchHolds, CasesHold, FormHolds, known_to_elements, element_at, element_count, size_with}
+use Rattle.cx_cells.specs.Layouts.{layout_of}
+use Rattle.cx_cells.specs.Meaning.{PartHolds, HeadHolds, CasesHold, known_to_elements, element_at, element_count, size_with}
 use Rattle.cx_cells.specs.Values.{values_of, CondHolds, count_of}
-use Rattle.cx_cells.specs.declared.cell.FlatCell.{FlatCell}
-use Rattle.cx_cells.specs.declared.form.CaseBranch.{CaseBranch}
 use Rattle.cx_cells.specs.declared.form.Form.{Form}
-use Rattle.cx_cells.specs.declared.form.Part.{Part}
 use Rattle.cx_cells.specs.declared.form.Tail.{Tail}
-use Rattle.cx_member.specs.Reading.{AreSmall, bytes_at, HaveCell, CellsHold, BindsNone, Binds, PartReads, HeadReads, HeadHoldsWith, ElementsHoldUpTo, TailHolds}
+use Rattle.cx_member.specs.Reading.{bytes_at, CellsHold, BindsNone, Binds, HeadHoldsWith, ElementsHoldUpTo, TailHolds}
 use Rattle.cx_member.proofs.Bindings.{binders_known, binders_count}
-
--- ---- branches
-
-pub cases_from : (known : List ℤ) (layout : List Extent) (bytes : List ℕ) (off : ℕ) (cases : List CaseBranch) → Any (BranchHolds known layout bytes off) cases → CasesHold known layout bytes off cases
-cases_from known layout bytes off [] h = tt
-cases_from known layout bytes off (b ∷ bs) h = h
-
-pub cases_to : (known : List ℤ) (layout : List Extent) (bytes : List ℕ) (off : ℕ) (cases : List CaseBranch) → (length cases ≡ 0 → ⊥) → CasesHold known layout bytes off cases → Any (BranchHolds known layout bytes off) cases
-cases_to known layout bytes off [] n h = absurd (n refl)
-cases_to known layout bytes off (b ∷ bs) n h = h
-
-pub no_cases : (known : List ℤ) (layout : List Extent) (bytes : List ℕ) (off : ℕ) (cases : List CaseBranch) → length cases ≡ 0 → CasesHold known layout bytes off cases
-no_cases known layout bytes off [] e = tt
-no_cases known layout bytes off (b ∷ bs) e = absurd (omega arith)
 
 -- ---- the head
 
@@ -63,34 +43,11 @@ module _ (rs : List Region) (i : ℕ) (args : List ℤ) (form : Form) where
   pub head_none : BindsNone (CellsHold rs i 0 form.head) args form.binders → HeadHolds form args (layout_of rs) (bytes_at rs i) → ⊥
   head_none b p = b p.binders p.count p.cells
 
--- ---- elements
-
--- a cell of the first bytes is one of more bytes, further on
-cell_moved : (n bytes off : ℕ) (c : FlatCell) → off + n ≤ bytes → HaveCell n 0 c → HaveCell bytes off c
-cell_moved n bytes off c l h = let e = h.ends in record { sized = h.sized; ends = omega arith }
-
-pub part_moved : (n bytes off known : ℕ) (part : Part) → off + n ≤ bytes → PartReads n 0 known part → PartReads bytes off known part
-part_moved n bytes off known part l h = record {
-  few = h.few;
-  told = h.told;
-  cells = All-weaker (HaveCell n 0) (HaveCell bytes off) (λ c. cell_moved n bytes off c l) part.cells h.cells;
-}
-
-pub zeros_small : (args : List ℤ) (n : ℕ) → AreSmall args → AreSmall (args ++ replicate n (pos 0))
-zeros_small args n h = All-append (λ z. unsigned_abs z ≤ 2 ^ 64) args (replicate n (pos 0)) h (All-replicate (λ z. unsigned_abs z ≤ 2 ^ 64) n (pos 0) (omega arith))
-
-pub zeros_count : (args : List ℤ) (n : ℕ) → length (args ++ replicate n (pos 0)) ≡ length args + n
-zeros_count args n = omega (arith, length-append args (replicate n (pos 0)), length-replicate n (pos 0))
-
 -- ---- the tail
 
 -- where the number of elements is z, the whole is that many bytes
 size_at : (form : Form) (args : List ℤ) (tail : Tail) (n bytes : ℕ) → element_count args tail ≡ pos n → element_at form tail n ≡ bytes → size_with form args (Some tail) ≡ Some bytes
 size_at form args tail n bytes e g = rw e (ap Some g)
-
-size_from : (form : Form) (args : List ℤ) (tail : Tail) (n bytes : ℕ) → element_count args tail ≡ pos n → size_with form args (Some tail) ≡ Some bytes → element_at form tail n ≡ bytes
-size_from form args tail n bytes e h =
-    let g : Some (element_at form tail n) ≡ Some bytes = subst (λ z. option_map (element_at form tail) (count_of z) ≡ Some bytes) e h in cc
 
 module _ (rs : List Region) (i : ℕ) (args : List ℤ) (form : Form) (tail : Tail) (bytes : ℕ) where
   -- the tail holds where each of its elements does
@@ -103,9 +60,6 @@ module _ (rs : List Region) (i : ℕ) (args : List ℤ) (form : Form) (tail : Ta
     (λ t. h.1 (λ j l. subst (λ zs. PartHolds zs (layout_of rs) (bytes_at rs i) (element_at form tail j) tail.part) (sym k) (t.elements j (omega (arith, ints, e, l))))),
   )
 
-  pub tail_of_other_size : (n : ℕ) → element_count args tail ≡ pos n → (element_at form tail n ≡ bytes → ⊥) → TailHolds bytes form args rs i (Some tail) → ⊥
-  tail_of_other_size n e g t = g (size_from form args tail n bytes e t.size)
-
   tail_past_by : (z : ℤ) → element_count args tail ≡ z → ((n : ℕ) → z ≡ pos n → bytes < n) → 1 ≤ tail.part.size → option_map (element_at form tail) (count_of z) ≡ Some bytes → ⊥
   tail_past_by (pos n) e h l g =
       let k : element_at form tail n ≡ bytes = cc in
@@ -116,51 +70,3 @@ module _ (rs : List Region) (i : ℕ) (args : List ℤ) (form : Form) (tail : Ta
   -- there are too many elements, or fewer than none
   pub tail_past : ((n : ℕ) → element_count args tail ≡ pos n → bytes < n) → 1 ≤ tail.part.size → TailHolds bytes form args rs i (Some tail) → ⊥
   tail_past h l t = tail_past_by (element_count args tail) refl h l t.size
-
-no_tail_size : (n bytes : ℕ) → Some n ≡ Some bytes → n ≡ bytes
-no_tail_size n bytes e = cc
-
--- without a tail the bytes are those of the head
-pub no_tail_is : (rs : List Region) (i : ℕ) (args : List ℤ) (form : Form) (t : Option Tail) (bytes : ℕ) (r : Bool) → t ≡ None → IsTrue r ↔ (form.head_size ≡ bytes) → IsTrue r ↔ TailHolds bytes form args rs i t
-no_tail_is rs i args form None bytes r e h = ((λ x. record { size = ap Some (h.0 x); elements = tt }), (λ x. h.1 (no_tail_size form.head_size bytes x.size)))
-no_tail_is rs i args form (Some tail) bytes r e h = absurd (cc)
-
--- ---- the form
-
-count_reaches : (form : Form) (tail : Tail) (o : Option ℕ) (bytes : ℕ) → option_map (element_at form tail) o ≡ Some bytes → form.head_size ≤ bytes
-count_reaches form tail None bytes e = absurd (cc)
-count_reaches form tail (Some n) bytes e = let g : element_at form tail n ≡ bytes = cc in omega arith
-
--- the head lies in the bytes of the form
-pub head_inside : (form : Form) (args : List ℤ) (t : Option Tail) (bytes : ℕ) → size_with form args t ≡ Some bytes → form.head_size ≤ bytes
-head_inside form args None bytes e = let g = no_tail_size form.head_size bytes e in omega arith
-head_inside form args (Some tail) bytes e = count_reaches form tail (count_of (element_count args tail)) bytes e
-
-wider_cell : (n bytes : ℕ) → n ≤ bytes → (off : ℕ) (c : FlatCell) → HaveCell n off c → HaveCell bytes off c
-wider_cell n bytes l off c h = let e = h.ends in record { sized = h.sized; ends = omega arith }
-
-wider_part : (n bytes : ℕ) → n ≤ bytes → (off known : ℕ) (part : Part) → PartReads n off known part → PartReads bytes off known part
-wider_part n bytes l off known part h = record {
-  few = h.few;
-  told = h.told;
-  cells = All-weaker (HaveCell n off) (HaveCell bytes off) (wider_cell n bytes l off) part.cells h.cells;
-}
-
-pub wider_head : (n bytes : ℕ) (form : Form) → n ≤ bytes → HeadReads n form → HeadReads bytes form
-wider_head n bytes form l h = record {
-  few = h.few;
-  told = h.told;
-  cells = All-weaker (HaveCell n 0) (HaveCell bytes 0) (wider_cell n bytes l 0) form.head h.cells;
-  cases = All-weaker (λ (b : CaseBranch). PartReads n form.cases_at (symbols_of form) b.part) (λ (b : CaseBranch). PartReads bytes form.cases_at (symbols_of form) b.part) (λ b. wider_part n bytes l form.cases_at (symbols_of form) b.part) form.cases h.cases;
-}
-
-pub form_from : (rs : List Region) (i : ℕ) (args : List ℤ) (form : Form) (bytes : ℕ) → bytes ≡ length (bytes_at rs i) → length args ≡ form.params → TailHolds bytes form args rs i form.tail → HeadHolds form args (layout_of rs) (bytes_at rs i) → FormHolds form args (layout_of rs) (bytes_at rs i)
-form_from rs i args form bytes e g t h = record {
-  given = g;
-  size = t.size ∙ ap Some e;
-  head = h;
-  elements = t.elements;
-}
-
-pub form_to : (rs : List Region) (i : ℕ) (args : List ℤ) (form : Form) (bytes : ℕ) → bytes ≡ length (bytes_at rs i) → FormHolds form args (layout_of rs) (bytes_at rs i) → TailHolds bytes form args rs i form.tail
-form_to rs i args form bytes e h = record { size = h.size ∙ ap Some (sym e); elements = h.elements }

@@ -4,7 +4,6 @@ pub mod Regions
 pub mod Telling
 pub mod Bindings
 pub mod Forms
-pub mod Readable
 pub mod Firsts
 pub mod Passed
 pub mod MetArgs

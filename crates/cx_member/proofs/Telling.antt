@@ -20,7 +20,6 @@ use Rattle.cx_cells.specs.Symbols.{term_names, kind_names, is_symbol, is_number,
 use Rattle.cx_cells.specs.Values.{all_values}
 use Rattle.cx_cells.specs.declared.cell.CellKind.{CellKind}
 use Rattle.cx_cells.specs.declared.cell.CellKind.TheVariants.{Val, Ptr}
-use Rattle.cx_cells.specs.declared.cell.CellKind.TheVariants.{Any as AnyBytes}
 use Rattle.cx_cells.specs.declared.cell.FlatCell.{FlatCell}
 use Rattle.cx_cells.specs.declared.telling.Told.{Told}
 use Rattle.cx_cells.specs.declared.telling.Told.TheVariants.{Value, Argument}
@@ -94,9 +93,6 @@ told_pointer s name args off null w h = pointer_by s args off w null (is_number 
 value_by : (s : ℕ) (u : Linear) (w : Told) (b : Bool) → is_symbol s u ≡ b → cond b (Some Value) None ≡ Some w → is_symbol s u ≡ true
 value_by s u w true e h = e
 value_by s u w false e h = absurd (cc)
-
-pub any-tells : (s : ℕ) (k : CellKind) (w : Told) → k ≡ AnyBytes → told_by s k ≡ Some w → ⊥
-any-tells s k w e h = let g : told_by s AnyBytes ≡ Some w = rw e at h in absurd (cc)
 
 pub symbol-tells : (v : ℕ → ℤ) (s : ℕ) (signed : Bool) (u : Linear) (w : Told) → told_by s (Val signed u) ≡ Some w → value v u ≡ v s
 symbol-tells v s signed u w h = symbol_value v s u (value_by s u w (is_symbol s u) refl h)
@@ -228,11 +224,6 @@ passed-none layout kinds given s j k g e v holds =
     let n = number_at_kind v layout kinds given j k holds g in
     let x : Some n.z ≡ None = sym n.at ∙ e in absurd (cc)
 
-pub passed-no_kind : (layout : List Extent) (kinds : List CellKind) (given : List ℤ) (s j : ℕ) (w : Told) → telling_kind s kinds ≡ Some (j, w) → slice_get kinds j ≡ None → IsOnly (ArgsHold layout kinds given) s None
-passed-no_kind layout kinds given s j w h e v holds =
-    let t = telling_kind_is s kinds j w h in
-    let x : Some t.k ≡ None = sym t.at ∙ e in absurd (cc)
-
 -- a value that is passed tells its symbol
 pub told-word : (v : ℕ → ℤ) (layout : List Extent) (s : ℕ) (k : CellKind) (w : Told) (signed : Bool) (u : Linear) (z : ℤ) (answer : Option ℤ) → k ≡ Val signed u → (InRange 8 signed z → answer ≡ Some z) → told_by s k ≡ Some w → ValueHolds v layout k z → answer ≡ Some (v s)
 told-word v layout s k w signed u z answer e word h holds =
@@ -253,6 +244,3 @@ told-address v layout s k w name args to null z i answer e a pointed h holds =
 pub address_holds : (v : ℕ → ℤ) (layout : List Extent) (k : CellKind) (name : ℕ) (args : List Linear) (to : Linear) (null : Bool) (z : ℤ) (r : Bool) → k ≡ Ptr name args to null → InRange 8 false z → IsTrue r ↔ Points layout name (all_values v args) (value v to) null z → IsTrue r ↔ ValueHolds v layout k z
 address_holds v layout k name args to null z r e w h =
     subst (λ x. IsTrue r ↔ ValueHolds v layout x z) (sym e) ((λ x. (w, h.0 x)), (λ y. h.1 y.1))
-
-pub no_address : (v : ℕ → ℤ) (layout : List Extent) (k : CellKind) (name : ℕ) (args : List Linear) (to : Linear) (null : Bool) (z : ℤ) → k ≡ Ptr name args to null → (InRange 8 false z → ⊥) → ValueHolds v layout k z → ⊥
-no_address v layout k name args to null z e w h = let y : ValueHolds v layout (Ptr name args to null) z = subst (λ x. ValueHolds v layout x z) e h in w y.0
