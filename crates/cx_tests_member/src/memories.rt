@@ -1,3 +1,5 @@
+ghost use Rattle.std.specs.Prelude.{◌≡◌, ◌↔◌, IsTrue, IsSomeAnd, length, slice_get};
+
 use cx_base::{List, Memory, NoMemory, Region};
 use cx_cells::{CellKind, FlatCell, FnType, Form, Part, ResultType, Rules, Tail};
 use cx_member::{answers, holds, meets, typed};
@@ -143,6 +145,16 @@ fn memory(alloc: Global, count: u8) -> Result<Memory, Fail> {
     Ok(memory)
 }
 
+/// Whether there is a function at the place, which takes so many arguments.
+fn is_call(rules: &Rules, f: u32, args: &[i128]) -> bool
+    ensures { IsTrue result ↔ IsSomeAnd (slice_get rules.now.fns f) (λ called. length args.now ≡ length called.args) }
+{
+    match rules.fns.get(f as usize) {
+        Some(called) => args.len() == called.args.len(),
+        None => false,
+    }
+}
+
 #[test]
 fn regions_hold_their_types(rt: HostRuntime) -> Result<(), Fail> {
     let alloc = rt.alloc();
@@ -150,9 +162,11 @@ fn regions_hold_their_types(rt: HostRuntime) -> Result<(), Fail> {
         panic!(&rt; "no rules");
     };
     let good = memory(alloc, 3)?;
+    assert!(&rt; good.len() == 2);
     assert!(&rt; typed(&rules, &good).is_none());
     assert!(&rt; holds(&rules, &good, 0) && holds(&rules, &good, 1));
     let bad = memory(alloc, 4)?;
+    assert!(&rt; bad.len() == 2);
     assert!(&rt; typed(&rules, &bad) == Some(0));
     assert!(&rt; !holds(&rules, &bad, 0) && holds(&rules, &bad, 1));
     Ok(())
@@ -175,14 +189,17 @@ fn calls_meet_their_types(rt: HostRuntime) -> Result<(), Fail> {
         ([4096, 18446744073709551616], false),
     ];
     for c in &cases {
+        assert!(&rt; is_call(&rules, 0, &c.0));
         assert!(&rt; meets(&rules, &before, 0, &c.0) == c.1);
     }
     let after = memory(alloc, 3)?;
     let untyped = memory(alloc, 4)?;
-    assert!(&rt; answers(&rules, &before, 0, &[4096, 5], Some(5), &after));
-    assert!(&rt; !answers(&rules, &before, 0, &[4096, 5], Some(6), &after));
-    assert!(&rt; !answers(&rules, &before, 0, &[4096, 5], None, &after));
-    assert!(&rt; !answers(&rules, &before, 0, &[4096, 5], Some(5), &untyped));
-    assert!(&rt; !answers(&rules, &before, 0, &[4096, 5], Some(5), &Memory::new(alloc)));
+    let args = [4096, 5];
+    assert!(&rt; is_call(&rules, 0, &args));
+    assert!(&rt; answers(&rules, &before, 0, &args, Some(5), &after));
+    assert!(&rt; !answers(&rules, &before, 0, &args, Some(6), &after));
+    assert!(&rt; !answers(&rules, &before, 0, &args, None, &after));
+    assert!(&rt; !answers(&rules, &before, 0, &args, Some(5), &untyped));
+    assert!(&rt; !answers(&rules, &before, 0, &args, Some(5), &Memory::new(alloc)));
     Ok(())
 }
