@@ -131,35 +131,62 @@ fn relations_are_read(rt: HostRuntime) -> Result<(), Fail> {
 }
 
 #[test]
-fn forms_and_lists_are_read(rt: HostRuntime) -> Result<(), Fail> {
-    let alloc = rt.alloc();
-    let text = "n, m, 4*k < 2";
-    let bytes = text.as_bytes();
-    let lexemes = lexemes_of(&rt, alloc, text)?;
-    let all = lexemes.as_slice();
-    assert!(&rt; all.len() == 9 && are_inside(bytes, all));
-    assert!(&rt; are_inside(bytes, &all[4..]));
-    let Ok(one) = name(alloc, bytes, all) else {
+fn a_name_is_read(rt: HostRuntime) -> Result<(), Fail> {
+    let bytes = b"n, m of";
+    let lexemes = lexemes_of(&rt, rt.alloc(), "n, m of")?;
+    assert!(&rt; are_inside(bytes, lexemes.as_slice()));
+    let Ok(one) = name(rt.alloc(), bytes, lexemes.as_slice()) else {
         panic!(&rt; "no name");
     };
-    assert!(&rt; word_text(&one.tree) == "n" && one.past == 1 && one.rest.len() == 8);
-    let Ok(first) = part(alloc, bytes, all) else {
+    assert!(&rt; word_text(&one.tree) == "n" && one.past == 1 && one.rest.len() == 3);
+    Ok(())
+}
+
+#[test]
+fn a_part_is_read(rt: HostRuntime) -> Result<(), Fail> {
+    let bytes = b"4*k < 2";
+    let lexemes = lexemes_of(&rt, rt.alloc(), "4*k < 2")?;
+    assert!(&rt; are_inside(bytes, lexemes.as_slice()));
+    let Ok(first) = part(rt.alloc(), bytes, lexemes.as_slice()) else {
         panic!(&rt; "no part");
     };
-    assert!(&rt; first.past == 1 && first.rest.len() == 8);
-    assert!(&rt; names(alloc, bytes, all).is_err());
-    let Ok(three) = lins(alloc, bytes, all) else {
+    assert!(&rt; first.past == 3 && first.rest.len() == 2);
+    Ok(())
+}
+
+#[test]
+fn a_form_is_read(rt: HostRuntime) -> Result<(), Fail> {
+    let bytes = b"4*k - 1 < 2";
+    let lexemes = lexemes_of(&rt, rt.alloc(), "4*k - 1 < 2")?;
+    assert!(&rt; are_inside(bytes, lexemes.as_slice()));
+    let Ok(form) = lin(rt.alloc(), bytes, lexemes.as_slice()) else {
+        panic!(&rt; "no linear form");
+    };
+    assert!(&rt; form.past == 7 && form.rest.len() == 2);
+    Ok(())
+}
+
+#[test]
+fn a_relation_is_read(rt: HostRuntime) -> Result<(), Fail> {
+    let bytes = b"4*k < 2, 1";
+    let lexemes = lexemes_of(&rt, rt.alloc(), "4*k < 2, 1")?;
+    assert!(&rt; are_inside(bytes, lexemes.as_slice()));
+    let Ok(one) = relation(rt.alloc(), bytes, lexemes.as_slice()) else {
+        panic!(&rt; "no relation");
+    };
+    assert!(&rt; one.past == 7 && one.rest.len() == 2);
+    Ok(())
+}
+
+#[test]
+fn forms_are_read(rt: HostRuntime) -> Result<(), Fail> {
+    let bytes = b"n, m, 4*k < 2";
+    let lexemes = lexemes_of(&rt, rt.alloc(), "n, m, 4*k < 2")?;
+    assert!(&rt; are_inside(bytes, lexemes.as_slice()));
+    let Ok(three) = lins(rt.alloc(), bytes, lexemes.as_slice()) else {
         panic!(&rt; "no linear forms");
     };
     assert!(&rt; three.tree.len() == 3 && three.past == 9 && three.rest.len() == 2);
-    let Ok(some) = lin(alloc, bytes, &all[4..]) else {
-        panic!(&rt; "no linear form");
-    };
-    assert!(&rt; some.past == 9 && some.rest.len() == 2);
-    let Ok(related) = relation(alloc, bytes, &all[4..]) else {
-        panic!(&rt; "no relation");
-    };
-    assert!(&rt; related.past == 13 && related.rest.len() == 0);
     Ok(())
 }
 
