@@ -2,7 +2,8 @@ pub mod Shapes
 pub mod Rounding
 pub mod Complete
 pub mod Declared
-pub mod Nodes
+pub mod Measured
+pub mod Keeping
 pub mod Runs
 pub mod Places
 pub mod FieldsMade

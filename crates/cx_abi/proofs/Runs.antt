@@ -1,14 +1,12 @@
 -- Members taken one after another.
 use Rattle.std.proofs.Common.{◌≡◌, ◌+◌, ◌*◌, ◌^◌, ◌≤◌, max, ℕ, Bool, refl, arith}
 use Rattle.cx_ctree.specs.Layouts.{Shapes, no_member, also_member, end_of, align_of, first_too_big_in}
-use Rattle.cx_abi.proofs.Nodes.{nodes_in}
 
 -- i members of a struct or union end at `end`, with the greatest alignment `align`, and those of `rest` are left of `all`
 pub record Ahead (u : Bool) (all rest : Shapes) (i end align : ℕ) : Type 0 where
   pub ends : end_of u end rest ≡ end_of u 0 all
   pub aligns : max align (align_of rest) ≡ align_of all
   pub fits : first_too_big_in rest ≡ first_too_big_in all
-  pub fewer : nodes_in rest ≤ nodes_in all
   pub bound : end ≤ i * (2 ^ 31 + 7)
   pub positive : 1 ≤ align
   pub scalar : align ≤ 8
@@ -22,7 +20,6 @@ starts u all = record {
   ends = refl;
   aligns = let h = align_positive all in omega (arith, h);
   fits = refl;
-  fewer = omega arith;
   bound = omega arith;
   positive = omega arith;
   scalar = omega arith;

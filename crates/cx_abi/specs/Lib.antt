@@ -1,3 +1,2 @@
 pub mod Recursion
-pub mod Extents
 pub mod Fields

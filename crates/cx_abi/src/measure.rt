@@ -4,13 +4,12 @@ ghost use Rattle.cx_ctree.specs.Types.{type_tree, tag as tagged};
 ghost use Rattle.cx_ctree.specs.Decls.{member_tree};
 ghost use Rattle.cx_ctree.specs.Layouts.{shape_of, shapes_of, declared, undeclared, first_incomplete, first_incomplete_in, round_up, place, past, fields_of, fields_from, if_too_big};
 ghost use Rattle.cx_ctree.specs.Units.{tags_of};
-ghost use Rattle.cx_abi.specs.Extents.{extent, IsExtent};
+ghost use Rattle.cx_ctree.specs.Extents.{extent, IsExtent};
 
-use crate::extent::{Extent, MOST_BYTES};
-use cx_ctree::{CType, Member, Unit};
+use cx_ctree::{CType, Extent, MOST_BYTES, Member, Unit};
 
 /// What stands for a type without a size.
-fn nothing() -> Extent
+pub fn nothing() -> Extent
     ensures size { result.size ≡ 0 }
     ensures align { result.align ≡ 1 }
 {
@@ -129,9 +128,19 @@ pub fn incomplete_part(unit: &Unit, ctype: &CType) -> Option<u32>
     }
 }
 
-/// The size and alignment of the type, or the first type in it that is too big. What is incomplete
-/// counts as nothing.
-#[cycle(extent)]
+/// The size and alignment of the tag at this place; nothing where no tag has it.
+#[tactic(auto, using(crate::proofs::Measured::tag_measured, crate::proofs::Measured::no_tag_measured))]
+fn tag_extent(unit: &Unit, tag: u32) -> Result<Extent, u32>
+    ensures { IsExtent (shape_of (tags_of unit.now) (tagged tag)) result }
+{
+    match unit.tags.get(tag as usize) {
+        Some(found) => found.extent,
+        None => Ok(nothing()),
+    }
+}
+
+/// The size and alignment of the type, or the first type in it that is too big: its tag, or 0 for an
+/// array. What is incomplete counts as nothing.
 pub fn type_extent(unit: &Unit, ctype: &CType) -> Result<Extent, u32>
     ensures { IsExtent (shape_of (tags_of unit.now) (type_tree ctype.now)) result }
 {
@@ -144,14 +153,11 @@ pub fn type_extent(unit: &Unit, ctype: &CType) -> Result<Extent, u32>
     }
 }
 
-/// The same of a struct or union.
-#[cycle(extent)]
-fn tag_extent(unit: &Unit, tag: u32) -> Result<Extent, u32>
-    ensures { IsExtent (shape_of (tags_of unit.now) (tagged tag)) result }
+/// The size and alignment that a struct, or a union where it is true, has with these members, or the
+/// first type in it that is too big, parts before wholes: its tag, `tag` for the whole, or 0 for an array.
+pub fn extent_with(unit: &Unit, tag: u32, union_: bool, members: &[Member]) -> Result<Extent, u32>
+    ensures { IsExtent (declared tag union_ (shapes_of (tags_of unit.now) (map member_tree members.now))) result }
 {
-    let Some((union_, members)) = declaration(unit, tag) else {
-        return Ok(nothing());
-    };
     let mut end = 0;
     let mut align = 1;
     for m in members {

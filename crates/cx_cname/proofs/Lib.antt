@@ -1,5 +1,6 @@
 mod Places
 mod Undoing
 mod Ranks
+mod Measures
 pub mod Same
 pub mod Whole

@@ -1,5 +1,5 @@
 -- Ranks of tags where a tag is added, and where one gets members.
-use Rattle.std.proofs.Common.{◌≡◌, ℕ, zero, suc, ◌+◌, add-one, ◌<◌, ◌≤◌, Bool, true, false, ◌&&◌, ◌==◌, List, [], ◌∷◌, ◌++◌, map, refl, ap, ◌∙◌, sym, Option, None, Some, length, arith, subst}
+use Rattle.std.proofs.Common.{Result, ◌≡◌, ℕ, zero, suc, ◌+◌, add-one, ◌<◌, ◌≤◌, Bool, true, false, ◌&&◌, ◌==◌, List, [], ◌∷◌, ◌++◌, map, refl, ap, ◌∙◌, sym, Option, None, Some, length, arith, subst}
 use Rattle.std.specs.Prelude.{slice_get, slice_set, nat_lt, not, is_some, option_map}
 use Rattle.std.proofs.lemmas.List.{map-append, map-set}
 use Rattle.std.proofs.lemmas.Option.{slice_get-map}
@@ -11,6 +11,7 @@ use Rattle.cx_ctree.specs.Types.{TypeTree, void, int, pointer, array, tag}
 use Rattle.cx_ctree.specs.Decls.{TagTree, tag_tree, MemberTree, member_tree}
 use Rattle.cx_ctree.specs.declared.decl.Member.{Member}
 use Rattle.cx_ctree.specs.declared.decl.Tag.{Tag}
+use Rattle.cx_ctree.specs.declared.extent.Extent.{Extent}
 use Rattle.cx_ctree.specs.declared.unit.Unit.{Unit}
 use Rattle.cx_ctree.specs.Path.{greatest}
 use Rattle.cx_ctree.specs.Units.{tags_of}
@@ -136,6 +137,15 @@ pub ranked_members : (u : Unit) (k : ℕ) (t : Tag) (ms : List MemberTree) → m
 ranked_members u k t ms may e =
     subst AreRanked (sym (map-set tag_tree u.tags k t ∙ ap (λ (s : TagTree). slice_set (tags_of u) k s) e)) (ranked_set (known_of u) k t.name t.union_ ms u.ranked may)
 
+-- a tag that may get members has none
+pub rank_open : (u : Unit) (k : ℕ) (ms : List MemberTree) → may_have (known_of u) k ms ≡ true → rank_of (tags_of u) k ≡ 0
+rank_open u k ms may = rank_without (tags_of u) (tags_of u) k u.ranked (is_not _ (both _ _ may).0)
+
+-- the members that a tag may get are below the next rank
+pub members_below : (u : Unit) (k : ℕ) (ms : List MemberTree) → may_have (known_of u) k ms ≡ true → list_all (λ m. is_below (tags_of u) (suc (greatest (λ t. t.rank) (tags_of u))) m.ctype) ms ≡ true
+members_below u k ms may =
+    all_kept (λ m. is_complete (known_of u) m.ctype) (λ m. is_below (tags_of u) (suc (greatest (λ t. t.rank) (tags_of u))) m.ctype) (λ m. below_most (tags_of u) (tags_of u) (λ j p. refl) (known_of u) refl m.ctype) ms (both _ _ may).1
+
 none_of : {A : Type 0} (o : Option A) → is_some o ≡ false → o ≡ None
 none_of None h = refl
 none_of (Some x) h = absurd cc
@@ -168,8 +178,8 @@ somewhere (y ∷ xs) zero x h = omega arith
 somewhere (y ∷ xs) (suc k) x h = let lt = somewhere xs k x h in omega (arith, lt)
 
 -- a tag with members and the next rank
-pub ranked_next : (u : Unit) (tags : List Tag) (name : Option ℕ) (union : Bool) (r g : ℕ) (ms : List Member) → r ≡ g + 1 → g ≡ greatest (λ t. t.rank) (map tag_tree tags) → tags ≡ u.tags
-    → tag_tree (record { name = name; union_ = union; rank = r; members = Some ms }) ≡ record { name = name; union_ = union; rank = suc (greatest (λ t. t.rank) (tags_of u)); members = Some (map member_tree ms) }
-ranked_next u tags name union r g ms e f same =
+pub ranked_next : (u : Unit) (tags : List Tag) (name : Option ℕ) (union : Bool) (r g : ℕ) (ms : List Member) (e : Result Extent ℕ) → r ≡ g + 1 → g ≡ greatest (λ t. t.rank) (map tag_tree tags) → tags ≡ u.tags
+    → tag_tree (record { name = name; union_ = union; rank = r; members = Some ms; extent = e }) ≡ record { name = name; union_ = union; rank = suc (greatest (λ t. t.rank) (tags_of u)); members = Some (map member_tree ms) }
+ranked_next u tags name union r g ms extent e f same =
     let next : r ≡ suc (greatest (λ t. t.rank) (tags_of u)) = e ∙ add-one g ∙ ap suc (f ∙ ap (λ (ts : List Tag). greatest (λ (t : TagTree). t.rank) (map tag_tree ts)) same) in
     λ i. record { name = name; union_ = union; rank = next i; members = Some (map member_tree ms) }

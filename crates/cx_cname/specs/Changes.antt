@@ -1,9 +1,11 @@
 -- Changes of what a unit declares, and what it declared before them.
-use Rattle.std.specs.Prelude.{◌≡◌, ℕ, ℤ, ◌-◌, List, [], ◌∷◌, map, length, take, slice_set}
+use Rattle.std.specs.Prelude.{◌≡◌, ◌⊎◌, ℕ, ℤ, ◌-◌, List, [], ◌∷◌, Some, map, length, take, slice_get, slice_set}
 use Rattle.cx_ctree.specs.Types.{type_tree}
 use Rattle.cx_ctree.specs.Decls.{tag_tree}
 use Rattle.cx_ctree.specs.declared.ctype.CType.{CType}
 use Rattle.cx_ctree.specs.declared.decl.Tag.{Tag}
+use Rattle.cx_ctree.specs.Layouts.{undeclared}
+use Rattle.cx_ctree.specs.Extents.{IsExtent}
 use Rattle.cx_ctree.specs.Units.{UnitTree, unit_tree}
 use Rattle.cx_ctree.specs.declared.unit.Unit.{Unit}
 use Rattle.cx_cname.specs.declared.journal.Change.{Change}
@@ -41,3 +43,12 @@ pub record SameFile (old new : Unit) : Type 0 where
   pub items : new.items ≡ old.items
   pub tokens : new.tokens ≡ old.tokens
   pub named : new.named ≡ old.named
+
+-- a tag without members, which has the extent of nothing
+pub record HasNothing (t : Tag) : Type 0 where
+  pub rank : t.rank ≡ 0
+  pub extent : (k : ℕ) → IsExtent (undeclared k) t.extent
+
+-- each tag that is left stood at its place, or has no members
+abbrev pub Remains : List Tag → List Tag → Type 0
+Remains left tags = (k : ℕ) (t : Tag) → slice_get left k ≡ Some t → (slice_get tags k ≡ Some t) ⊎ HasNothing t

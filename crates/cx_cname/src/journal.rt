@@ -5,10 +5,11 @@ ghost use Rattle.cx_ctree.specs.Path.{greatest};
 ghost use Rattle.cx_ctree.specs.Tags.{AreRanked};
 ghost use Rattle.cx_ctree.specs.Units.{UnitTree, unit_tree};
 ghost use Rattle.cx_cname.specs.Known.{known_of, with_tag, with_typedef, with_constant, with_enum, with_members};
-ghost use Rattle.cx_cname.specs.Changes.{past, before, without_last, undone, with_parts};
+ghost use Rattle.cx_cname.specs.Changes.{past, before, without_last, undone, with_parts, Remains};
 ghost use Rattle.cx_cname.specs.Meanings.{may_have};
 
 use crate::look_up;
+use cx_abi::{extent_with, nothing};
 use cx_base::{List, NoMemory};
 use cx_ctree::{CType, Member, Tag, Unit};
 
@@ -28,7 +29,7 @@ pub enum Change {
 }
 
 /// Adds a struct, or a union where it is true, without members.
-#[tactic(auto, using(crate::proofs::Undoing::past_tag, crate::proofs::Ranks::ranked_tag))]
+#[tactic(auto, using(crate::proofs::Undoing::past_tag))]
 pub fn add_tag(
     known: &mut Unit,
     changes: &mut List<Change>,
@@ -47,6 +48,7 @@ pub fn add_tag(
         union_,
         rank: 0,
         members: None,
+        extent: Ok(nothing()),
     };
     match known.tags.push(tag) {
         Ok(()) => Ok(()),
@@ -139,7 +141,8 @@ fn undo(
     consts: &mut List<(u32, i128)>,
     enums: &mut List<u32>,
 )
-    ensures { (u : UnitTree) → with_parts u tags.new typedefs.new consts.new enums.new ≡ undone change (with_parts u tags.old typedefs.old consts.old enums.old) }
+    ensures remains { Remains tags.new tags.old }
+    ensures undone { (u : UnitTree) → with_parts u tags.new typedefs.new consts.new enums.new ≡ undone change (with_parts u tags.old typedefs.old consts.old enums.old) }
 {
     match change {
         Change::Tag => cut_last(tags),
@@ -150,6 +153,7 @@ fn undo(
                     union_,
                     rank: 0,
                     members: None,
+                    extent: Ok(nothing()),
                 };
                 let _ = tags.set(at, tag);
             }
@@ -168,7 +172,8 @@ fn undo_all(
     consts: &mut List<(u32, i128)>,
     enums: &mut List<u32>,
 )
-    ensures { (u : UnitTree) → with_parts u tags.new typedefs.new consts.new enums.new ≡ before changes.now (with_parts u tags.old typedefs.old consts.old enums.old) }
+    ensures remains { Remains tags.new tags.old }
+    ensures before { (u : UnitTree) → with_parts u tags.new typedefs.new consts.new enums.new ≡ before changes.now (with_parts u tags.old typedefs.old consts.old enums.old) }
 {
     let mut n = changes.len();
     while n > 0 {
@@ -229,6 +234,10 @@ pub fn set_members(
     let Some(rank) = greatest_rank(known.tags.as_slice()).checked_add(1) else {
         return Err(NoMemory);
     };
+    let Ok(number) = u32::try_from(at) else {
+        return Err(NoMemory);
+    };
+    let extent = extent_with(known, number, union_, members.as_slice());
     let change = match known.tags.get(at) {
         None => return Ok(true),
         Some(tag) => Change::Members(at, tag.name, tag.union_),
@@ -239,6 +248,7 @@ pub fn set_members(
         union_,
         rank,
         members: Some(members),
+        extent,
     };
     let _ = known.tags.set(at, tag);
     Ok(true)

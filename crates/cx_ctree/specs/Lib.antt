@@ -5,5 +5,7 @@ pub mod Decls
 pub mod Path
 pub mod Tags
 pub mod Layouts
+pub mod Extents
+pub mod ExtentProps
 pub mod Units
 pub mod Conversions

@@ -1,4 +1,5 @@
 use crate::ctype::CType;
+use crate::extent::Extent;
 use crate::stmt::Stmt;
 use cx_base::{List, Span};
 
@@ -20,6 +21,10 @@ pub struct Tag {
     pub rank: u32,
     /// None where no members are declared.
     pub members: Option<List<Member>>,
+    /// Its size and alignment, of nothing where no members are declared; where it contains, other
+    /// than behind a pointer, or is a type of more than 2^31 bytes, the tag of the first such type,
+    /// parts before wholes, or 0 for an array.
+    pub extent: Result<Extent, u32>,
 }
 
 /// A parameter of a function.

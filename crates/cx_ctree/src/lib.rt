@@ -7,6 +7,7 @@
 mod ctype;
 mod decl;
 mod expr;
+mod extent;
 mod stmt;
 mod unit;
 
@@ -14,5 +15,6 @@ pub use ctype::CType;
 pub use cx_base::{Token, TokenKind};
 pub use decl::{Decl, Function, Item, Member, Param, Signature, Tag, Typed};
 pub use expr::{Binary, Call, Effect, Expr, ExprKind, Rhs, Unary};
+pub use extent::{Extent, MOST_BYTES};
 pub use stmt::{Group, Stmt, StmtKind};
 pub use unit::Unit;

@@ -1,6 +1,8 @@
 ghost use Rattle.std.specs.Prelude.{map};
 ghost use Rattle.cx_ctree.specs.Decls.{tag_tree};
 ghost use Rattle.cx_ctree.specs.Tags.{AreRanked};
+ghost use Rattle.cx_ctree.specs.Extents.{AreMeasured};
+ghost use Rattle.cx_ctree.specs.ExtentProps.{AreMeasured-prop};
 
 use crate::ctype::CType;
 use crate::decl::{Item, Tag};
@@ -10,7 +12,7 @@ use cx_base::{List, Names, Token};
 /// file.
 ///
 /// The members of a tag have complete types, and a tag contains, other than behind pointers, only
-/// tags of lower rank.
+/// tags of lower rank. Each tag has the size and alignment of what it consists of.
 #[derive(Drop)]
 pub struct Unit {
     /// All names of the file, by first sight.
@@ -27,4 +29,5 @@ pub struct Unit {
     /// The name of each place where an item that is passed over names a function.
     pub named: List<u32>,
     pub ghost ranked: { AreRanked (map tag_tree tags) },
+    pub ghost measured: { AreMeasured tags } by { AreMeasured-prop tags },
 }

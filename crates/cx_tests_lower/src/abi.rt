@@ -1,7 +1,7 @@
-use crate::units::unit_of;
 use cx_abi::{Layout, LayoutFault, layout, offset_of, size_of};
-use cx_base::{CInt, List, NoMemory};
-use cx_ctree::{CType, Member, Tag, Unit};
+use cx_base::{CInt, List, Names, NoMemory};
+use cx_cname::{add_tag, set_members};
+use cx_ctree::{CType, Member, Unit};
 use std::alloc::Global;
 use std::test::Fail;
 
@@ -55,31 +55,58 @@ fn members_of(alloc: Global, codes: &str) -> Result<List<Member>, NoMemory> {
     Ok(members)
 }
 
-fn tag_of(alloc: Global, code: &str) -> Result<Tag, NoMemory> {
+/// A unit in which nothing is declared.
+fn no_declarations(alloc: Global) -> Result<Unit, NoMemory> {
+    Ok(Unit {
+        names: Names::new(alloc)?,
+        tags: List::new(alloc),
+        typedefs: List::new(alloc),
+        consts: List::new(alloc),
+        enums: List::new(alloc),
+        items: List::new(alloc),
+        tokens: List::new(alloc),
+        named: List::new(alloc),
+    })
+}
+
+/// The kind, the rank and the members of a tag.
+fn parts_of(code: &str) -> (&str, u32, &str) {
     let (kind, rest) = code.split_once(':').unwrap_or(("o", ""));
     let (rank, codes) = rest.split_once(':').unwrap_or(("0", ""));
-    let members = if kind == "o" {
-        None
-    } else {
-        Some(members_of(alloc, codes)?)
-    };
-    Ok(Tag {
-        name: None,
-        union_: kind == "u",
-        rank: number_of(rank),
-        members,
-    })
+    (kind, number_of(rank), codes)
+}
+
+/// Gives the tags of this rank their members; false where these are incomplete.
+fn set_ranked(alloc: Global, unit: &mut Unit, codes: &str, rank: u32) -> Result<bool, NoMemory> {
+    let mut changes = List::new(alloc);
+    for (at, code) in codes.split(' ').enumerate() {
+        let (kind, own, members) = parts_of(code);
+        if own == rank {
+            let members = members_of(alloc, members)?;
+            if !set_members(unit, &mut changes, at, None, kind == "u", members)? {
+                return Ok(false);
+            }
+        }
+    }
+    Ok(true)
 }
 
 /// The unit with these structs and unions; None where their ranks are not in order.
 fn declared(alloc: Global, codes: &str) -> Result<Option<Unit>, NoMemory> {
-    let mut tags = List::new(alloc);
-    if !codes.is_empty() {
-        for code in codes.split(' ') {
-            tags.push(tag_of(alloc, code)?)?;
+    let mut unit = no_declarations(alloc)?;
+    if codes.is_empty() {
+        return Ok(Some(unit));
+    }
+    let mut changes = List::new(alloc);
+    for code in codes.split(' ') {
+        add_tag(&mut unit, &mut changes, None, parts_of(code).0 == "u")?;
+    }
+    for rank in 1..=32 {
+        if !set_ranked(alloc, &mut unit, codes, rank)? {
+            return Ok(None);
         }
     }
-    unit_of(alloc, tags)
+    Ok(Some(unit))
 }
 
 /// Whether the layout has this size and alignment, and members at these places.
@@ -321,6 +348,17 @@ fn the_greatest_types(rt: HostRuntime) -> Result<(), Fail> {
     assert!(rt; has_layout(alloc, "u:1:c.2147483648,l", "0", 2147483648, 8, &[0, 0])?);
     // short x[2][536870912];
     assert!(rt; has_layout(alloc, "", "h.2.536870912", 2147483648, 2, &[])?);
+    Ok(())
+}
+
+// Each holds two of the one before, so what the last consists of has 2^30 parts.
+#[test]
+fn structs_that_double(rt: HostRuntime) -> Result<(), Fail> {
+    let tags = "s:1:c s:2:0,0 s:3:1,1 s:4:2,2 s:5:3,3 s:6:4,4 s:7:5,5 s:8:6,6 s:9:7,7 s:10:8,8 \
+        s:11:9,9 s:12:10,10 s:13:11,11 s:14:12,12 s:15:13,13 s:16:14,14 s:17:15,15 \
+        s:18:16,16 s:19:17,17 s:20:18,18 s:21:19,19 s:22:20,20 s:23:21,21 s:24:22,22 \
+        s:25:23,23 s:26:24,24 s:27:25,25 s:28:26,26 s:29:27,27 s:30:28,28 s:31:29,29";
+    assert!(rt; has_layout(rt.alloc(), tags, "30", 1073741824, 1, &[0, 536870912])?);
     Ok(())
 }
 

@@ -2,10 +2,6 @@
 //! says.
 #![tactic(auto)]
 
-mod units;
-
-pub use units::unit_of;
-
 #[cfg(test)]
 mod abi;
 #[cfg(test)]

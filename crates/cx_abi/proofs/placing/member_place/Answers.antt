@@ -1,6 +1,6 @@
 use Rattle.std.proofs.Common.{map}
 use Rattle.cx_ctree.specs.Decls.{tag_tree, member_tree}
-use Rattle.cx_abi.specs.Extents.{extent}
+use Rattle.cx_ctree.specs.Extents.{extent}
 use Rattle.cx_abi.proofs.Places.{starts_seeking, seeks_on}
 use Rattle.cx_abi.proofs.placing.member_place.Goals as goal
 

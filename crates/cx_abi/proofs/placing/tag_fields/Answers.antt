@@ -1,6 +1,6 @@
 use Rattle.std.proofs.Common.{map, subst, sym}
 use Rattle.cx_ctree.specs.Decls.{tag_tree, member_tree}
-use Rattle.cx_abi.specs.Extents.{extent}
+use Rattle.cx_ctree.specs.Extents.{extent}
 use Rattle.cx_abi.specs.Fields.{field_tree}
 use Rattle.cx_ctree.specs.Layouts.{place}
 use Rattle.cx_abi.proofs.FieldsMade.{field_made}

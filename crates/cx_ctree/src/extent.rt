@@ -4,7 +4,7 @@ ghost use Rattle.std.specs.Prelude.{◌≤◌, ◌^◌, ◌+◌};
 pub const MOST_BYTES: u64 = 1 << 31;
 
 /// How many bytes a type takes, and of what its addresses are multiples.
-#[derive(Clone, Copy)]
+#[derive(Clone, Copy, Debug)]
 pub struct Extent {
     pub size: u64,
     pub align: u32,
