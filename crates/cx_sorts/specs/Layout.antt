@@ -1,6 +1,6 @@
 -- Layout of structs by the System V AMD64 ABI (3.1.2) and C11 6.7.2.1 (paragraphs 15 to 17): members stand in order, each
 -- at the next multiple of its alignment, and the size is a multiple of the greatest alignment.
-use Rattle.std.specs.Prelude.{ℕ, ◌+◌, max, List, [], ◌∷◌, Option, Some, None, if◌then◌else◌}
+use Rattle.std.specs.Prelude.{ℕ, ◌+◌, max, List, [], ◌∷◌, Option, Some, None, nat_eq, if◌then◌else◌}
 use Rattle.std.specs.Int.{next_multiple_of}
 use Rattle.cx_form.specs.declared.tree.Word.{Word}
 use Rattle.cx_form.specs.declared.tree.Member.{Member}
@@ -35,6 +35,11 @@ offset_from past (m ∷ ms) name = if same_name m.name name then Some (begins pa
 -- the offset of the member of this name, in bytes from the struct's first
 abbrev pub offset_of : Struct → Word → Option ℕ
 offset_of s name = offset_from 0 s.members name
+
+-- the member that begins at this offset, among members before which the struct has `past` bytes
+abbrev pub member_from : ℕ → List Member → ℕ → Option Member
+member_from past [] offset = None
+member_from past (m ∷ ms) offset = if nat_eq (begins past m) offset then Some m else member_from (ends past m) ms offset
 
 -- the first offset past all these members
 abbrev pub end_from : ℕ → List Member → ℕ

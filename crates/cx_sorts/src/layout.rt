@@ -1,5 +1,5 @@
-ghost use Rattle.std.specs.Prelude.{◌≡◌, ◌+◌, ◌*◌, ◌^◌, ◌<◌, ◌≤◌, length};
-ghost use Rattle.cx_sorts.specs.Layout.{size_of, alignment_of, begins, ends, offset_of, end_from, greatest_alignment, struct_size};
+ghost use Rattle.std.specs.Prelude.{◌≡◌, ◌+◌, ◌*◌, ◌^◌, ◌<◌, ◌≤◌, length, option_copied};
+ghost use Rattle.cx_sorts.specs.Layout.{size_of, alignment_of, begins, ends, offset_of, member_from, end_from, greatest_alignment, struct_size};
 
 use crate::names::same_name;
 use cx_form::{Member, Struct, ValueType, Word};
@@ -52,6 +52,20 @@ pub fn offset_of(s: &Struct, name: &Word) -> Option<u128>
     for m in s.members.as_slice() {
         if same_name(&m.name, name) {
             return Some(begins(past, m));
+        }
+        past = ends(past, m);
+    }
+    None
+}
+
+/// The member that begins at this offset, in bytes from the struct's first.
+pub fn member_at(s: &Struct, offset: u128) -> Option<&Member>
+    ensures { option_copied result ≡ member_from 0 s.now.members offset }
+{
+    let mut past = 0u128;
+    for m in s.members.as_slice() {
+        if begins(past, m) == offset {
+            return Some(m);
         }
         past = ends(past, m);
     }

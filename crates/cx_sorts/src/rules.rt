@@ -1,10 +1,11 @@
-ghost use Rattle.std.specs.Prelude.{◌≡◌, map, IfOk, option_map, option_copied};
+ghost use Rattle.std.specs.Prelude.{◌≡◌, map, find, IfOk, option_map, option_copied};
 ghost use Rattle.std.specs.Result.{result_map_both};
+ghost use Rattle.cx_sorts.specs.Names.{same_name};
 ghost use Rattle.cx_sorts.specs.Meaning.{cover, member_offset};
 ghost use Rattle.cx_sorts.specs.Rules.{region_of, sort_of, target_of, known_target, region_type, cell_at, within, held_at, fits, may_store, loaded, rule, access_span, result_alarm, return_alarm};
 
-use crate::layout::{offset_of, struct_size};
-use crate::names::{place_of, struct_of, variable};
+use crate::layout::{member_at, offset_of, struct_size};
+use crate::names::{place_of, same_name, struct_of, variable};
 use crate::verdict::{Access, Condition, Sort};
 use cx_base::{List, NoMemory, Span};
 use cx_form::{
@@ -95,15 +96,26 @@ fn region_type<'a>(
     Some((region, s))
 }
 
-fn cell_at<'a>(region: &'a RegionType, s: &Struct, offset: u128) -> Option<&'a Argument>
-    ensures { option_copied result ≡ cell_at region.now s.now offset }
+fn cell_named<'a>(region: &'a RegionType, name: &Word) -> Option<&'a Argument>
+    ensures { option_copied result ≡ option_map (λ cell. cell.holds) (find (λ cell. same_name name.now cell.member) region.now.cells) }
 {
     let cell = region
         .cells
         .as_slice()
         .iter()
-        .find(|cell| offset_of(s, &cell.member) == Some(offset))?;
+        .find(|cell| same_name(name, &cell.member))?;
     Some(&cell.holds)
+}
+
+#[tactic(auto, using(crate::proofs::Cells::nothing_begins, crate::proofs::Cells::another_is_meant))]
+fn cell_at<'a>(region: &'a RegionType, s: &Struct, offset: u128) -> Option<&'a Argument>
+    ensures { option_copied result ≡ cell_at region.now s.now offset }
+{
+    let m = member_at(s, offset)?;
+    if offset_of(s, &m.name) != Some(offset) {
+        return None;
+    }
+    cell_named(region, &m.name)
 }
 
 fn within(size: u128, offset: u128) -> Option<u128>
