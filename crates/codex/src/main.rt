@@ -4,7 +4,8 @@
 
 ghost use Rattle.std.specs.Prelude.{◌≡◌, IfSome};
 ghost use Rattle.cx_run.specs.Words.{texts};
-ghost use Rattle.cx_run.specs.Headline.{Promise};
+ghost use Rattle.cx_run.specs.Answers.{counted};
+ghost use Rattle.cx_run.specs.Headline.{Promise, Call, IsNumberOf};
 
 use cx_io::{DiskFiles, Files, Sink, StdSink};
 use cx_run::run;
@@ -26,9 +27,22 @@ fn words(rt: &HostRuntime) -> io::Result<Vec<String>> {
     }
 }
 
-/// The number with which the program ends: 0 only where the promise of the top call holds.
+/// The number with which the program ends: that of a status with which the top call ended, so 0 only
+/// where its promise holds.
 fn exit_number<F: Files, K: Sink>(alloc: Global, words: &[String], files: &mut F, out: &mut K) -> u8
-    ensures { result ≡ 0 → IfSome (F.map files.old) (λ m. Promise m (texts words.now) (K.written out.old) (K.written out.new)) }
+    ensures number { let call : Call = record {
+      files = F.map files.old;
+      words = texts words.now;
+      before = counted (F.faults files.old) (F.absents files.old) (F.given files.old);
+      now = counted (F.faults files.new) (F.absents files.new) (F.given files.new);
+      room = K.room out.old;
+      faults_before = K.faults out.old;
+      faults_now = K.faults out.new;
+      was = K.written out.old;
+      written = K.written out.new;
+    } in
+        IsNumberOf call result }
+    ensures headline { result ≡ 0 → IfSome (F.map files.old) (λ m. Promise m (texts words.now) (K.written out.old) (K.written out.new)) }
 {
     run(alloc, words, files, out).number()
 }

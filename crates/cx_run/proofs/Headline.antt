@@ -21,9 +21,9 @@ use Rattle.cx_run.specs.declared.ending.Ending.{Ending}
 use Rattle.cx_run.specs.declared.ending.Ending.TheVariants.{Usage, Absent, TooLarge, NotBuilt, ReadFailed, Judged}
 use Rattle.cx_run.specs.Report.{accepted_report}
 use Rattle.cx_run.specs.Words.{form_of}
-use Rattle.cx_run.specs.Outcome.{Outcome, ◌>>=◌, ended, outcome_by, whole, built, c_file, type_file, judged, nothing_to_judge, report, checked, usage, limit_of}
+use Rattle.cx_run.specs.Outcome.{Outcome, ◌>>=◌, ended, outcome_by, whole, built, c_file, type_file, judged, nothing_to_judge, report, checked, usage, limit_of, outcome_of}
 use Rattle.cx_run.specs.Answers.{Tells}
-use Rattle.cx_run.specs.Headline.{Wrote, SafeAsWritten, Promise}
+use Rattle.cx_run.specs.Headline.{Wrote, SafeAsReported, Promise}
 
 -- what ends a chain of steps is not Done
 abbrev EndsOtherwise : {A : Type 0} → Result A Outcome → Type 0
@@ -108,29 +108,30 @@ report_on source types fo go =
     (λ (f : Function). option_map_or (λ (g : FunctionType). judged source.bytes types f.name.text (verdict_of source.file types f g)) go nothing_to_judge)
     fo nothing_to_judge
 
-safe_as_written : (source : Source) (types : t.TypeFile) (before now : Option (List ℕ)) (fo : Option Function) (go : Option FunctionType)
+safe_as_reported : (source : Source) (types : t.TypeFile) (fo : Option Function) (go : Option FunctionType)
     → IsCForm source.file → IsTypeForm source.file types → source.file.function ≡ fo → types.function ≡ go → AreBoth types.regions fo go
-    → (report_on source types fo go).status ≡ Done → Wrote before now (report_on source types fo go).text
-    → SafeAsWritten source.bytes source.file types before now fo go
-safe_as_written source types before now None None c_form t_form of_c of_t agree done wrote = wrote
-safe_as_written source types before now (Some f) (Some g) c_form t_form of_c of_t agree done wrote =
+    → (report_on source types fo go).status ≡ Done
+    → SafeAsReported source.bytes source.file types (report_on source types fo go).text fo go
+safe_as_reported source types None None c_form t_form of_c of_t agree done = refl
+safe_as_reported source types (Some f) (Some g) c_form t_form of_c of_t agree done =
     let verdict = verdict_of source.file types f g in
     let (quiet, text) = no_alarm source.bytes types f.name.text verdict.accesses verdict.alarm done in (
       verdict.accesses,
-      subst (λ (text : List ℕ). Wrote before now text) text wrote,
+      text,
       no_alarm_is_safe source.file types f g (record { c_form = c_form; type_form = t_form; of_c = of_c; of_types = of_t }) quiet,
     )
-safe_as_written source types before now None (Some g) c_form t_form of_c of_t agree done wrote = absurd agree
-safe_as_written source types before now (Some f) None c_form t_form of_c of_t agree done wrote = absurd agree
+safe_as_reported source types None (Some g) c_form t_form of_c of_t agree done = absurd agree
+safe_as_reported source types (Some f) None c_form t_form of_c of_t agree done = absurd agree
 
 -- the outcome for two names of files
 checked_done : (m : FileMap) (words : List (List ℕ)) (c_name t_name : List ℕ) (before now : Option (List ℕ)) → form_of words ≡ Some (c_name, t_name)
-    → (checked m c_name t_name).status ≡ Done → Wrote before now (checked m c_name t_name).text → Promise m words before now
+    → (checked m c_name t_name).status ≡ Done → Wrote before now (outcome_of m words).text → Promise m words before now
 checked_done m words c_name t_name before now form done wrote =
     let all = ended_ok (c_file m c_name >>= λ source. type_file m t_name source >>= λ types. Ok (report source types)) (all_ends m c_name t_name) done in
     let (source, first, second) = chain_ok (c_file m c_name) _ (checked m c_name t_name) all in
     let (types, made, last) = chain_ok (type_file m t_name source) (λ types. Ok (report source types)) (checked m c_name t_name) second in
     let same : report source types ≡ checked m c_name t_name = ok_same (Ok (report source types)) _ (checked m c_name t_name) refl last in
+    let given : checked m c_name t_name ≡ outcome_of m words = ap (λ (f : Option (List ℕ × List ℕ)). option_map_or (λ f. checked m f.0 f.1) f usage) (sym form) in
     let (c_there, c_tree) = c_file_there m c_name source first in
     let (bytes, t_there, t_tree) = type_file_there m t_name source types made in
     let c_text : CFileOf source.bytes source.file = c_file_sound source.bytes source.file c_tree in
@@ -147,11 +148,13 @@ checked_done m words c_name t_name before now form done wrote =
       c_text = c_text;
       types = types;
       types_text = t_text;
-      safe = safe_as_written source types before now source.file.function types.function c_text.rules t_text.rules refl refl t_text.rules.both (subst (λ (o : Outcome). o.status ≡ Done) (sym same) done) (subst (λ (o : Outcome). Wrote before now o.text) (sym same) wrote);
+      safe = subst (λ (o : Outcome). SafeAsReported source.bytes source.file types o.text source.file.function types.function) (same ∙ given)
+          (safe_as_reported source types source.file.function types.function c_text.rules t_text.rules refl refl t_text.rules.both (subst (λ (o : Outcome). o.status ≡ Done) (sym same) done));
+      wrote = wrote;
     }
 
 form_done : (m : FileMap) (words : List (List ℕ)) (form : Option (List ℕ × List ℕ)) (before now : Option (List ℕ)) → form_of words ≡ form
-    → (option_map_or (λ f. checked m f.0 f.1) form usage).status ≡ Done → Wrote before now (option_map_or (λ f. checked m f.0 f.1) form usage).text → Promise m words before now
+    → (option_map_or (λ f. checked m f.0 f.1) form usage).status ≡ Done → Wrote before now (outcome_of m words).text → Promise m words before now
 form_done m words None before now is done wrote = absurd (cc done)
 form_done m words (Some (c_name, t_name)) before now is done wrote = checked_done m words c_name t_name before now is done wrote
 
