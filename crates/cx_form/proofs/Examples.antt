@@ -7,7 +7,7 @@ use Rattle.cx_form.specs.declared.tree.CFile.{CFile}
 use Rattle.cx_form.specs.declared.tree.Argument.TheVariants as argument
 use Rattle.cx_form.specs.declared.tree.TypeFile.{TypeFile}
 use Rattle.cx_form.specs.Tokens.{is_blank, starts_name, is_digit, goes_on, is_mark, token_len, word_at, tokens_from}
-use Rattle.cx_form.specs.Grammar.{reserved}
+use Rattle.cx_form.specs.Grammar.{reserved, gnu_words}
 use Rattle.cx_form.specs.Rules.{is_struct, is_statement, returns, is_function, is_c_form, are_in_order, is_region, are_both_void, are_agreed, are_both, is_type_form}
 use Rattle.cx_form.specs.Reading.{many_from, type_at, member_at, members_at, struct_at, structs_at, result_at, parameter_at, more_parameters_at, parameters_at, load_at, store_at, tail_at, statement_at, statements_at, returned_at, return_at, ending_at, block_at, function_at, c_file_at, argument_at, held_at, cell_at, cells_at, region_at, regions_at, more_arguments_at, arguments_at, answer_at, function_type_at, type_file_at, c_file_of, type_file_of}
 
@@ -33,7 +33,7 @@ vec = record {
 
 step_is_a_c_file :
     c_file_of (codes "struct vec { unsigned long len; struct vec *next; }; unsigned long step(struct vec *p, struct vec *q, unsigned long x) {   q = p->next;   p->len = x;   x = q->len;   return x; }") ≡ Some vec
-unfolding c_file_of c_file_at structs_at many_from tokens_from token_len is_blank starts_name is_digit goes_on is_mark reserved struct_at members_at member_at type_at function_at result_at parameter_at more_parameters_at parameters_at load_at store_at tail_at statement_at statements_at returned_at return_at ending_at block_at is_c_form is_struct is_statement returns is_function
+unfolding c_file_of c_file_at structs_at many_from tokens_from token_len is_blank starts_name is_digit goes_on is_mark reserved gnu_words struct_at members_at member_at type_at function_at result_at parameter_at more_parameters_at parameters_at load_at store_at tail_at statement_at statements_at returned_at return_at ending_at block_at is_c_form is_struct is_statement returns is_function
 step_is_a_c_file = refl
 
 step_is_a_type_file :
@@ -41,5 +41,5 @@ step_is_a_type_file :
       regions = record { name = word_at 7 (codes "vec"); tag = word_at 20 (codes "vec"); cells = record { member = word_at 26 (codes "len"); holds = argument.Any } ∷ record { member = word_at 37 (codes "next"); holds = argument.Pointer (word_at 47 (codes "vec")) } ∷ [] } ∷ [];
       function = Some (record { name = word_at 58 (codes "step"); arguments = argument.Pointer (word_at 67 (codes "vec")) ∷ argument.Any ∷ argument.Any ∷ []; result = Some argument.Any });
     })
-unfolding type_file_of type_file_at regions_at many_from tokens_from token_len is_blank starts_name is_digit goes_on is_mark reserved region_at cells_at cell_at held_at argument_at function_type_at more_arguments_at arguments_at answer_at is_type_form is_region are_in_order are_both_void are_agreed are_both
+unfolding type_file_of type_file_at regions_at many_from tokens_from token_len is_blank starts_name is_digit goes_on is_mark reserved gnu_words region_at cells_at cell_at held_at argument_at function_type_at more_arguments_at arguments_at answer_at is_type_form is_region are_in_order are_both_void are_agreed are_both
 step_is_a_type_file = refl

@@ -42,6 +42,16 @@ reserved =
     ∷ codes "void" ∷ codes "volatile" ∷ codes "while" ∷ codes "_Alignas" ∷ codes "_Alignof" ∷ codes "_Atomic" ∷ codes "_Bool" ∷ codes "_Complex" ∷ codes "_Generic" ∷ codes "_Imaginary" ∷ codes "_Noreturn" ∷ codes "_Static_assert" ∷ codes "_Thread_local"
     ∷ codes "region" ∷ codes "some" ∷ codes "of" ∷ codes "where" ∷ codes "cases" ∷ codes "when" ∷ codes "any" ∷ codes "val" ∷ codes "ptr" ∷ codes "null" ∷ codes "as" ∷ codes "fn" ∷ codes "alloc" ∷ codes "bytes" ∷ codes "zero" ∷ codes "global" ∷ []
 
+-- the words that GNU C adds, and its spellings of words of C: a compiler reads none of them as a name
+unfoldable pub gnu_words : List (List ℕ)
+gnu_words =
+    codes "asm" ∷ codes "typeof" ∷ codes "__RTL" ∷ codes "__seg_fs" ∷ codes "__seg_gs" ∷ codes "__alignof" ∷ codes "__alignof__" ∷ codes "__asm" ∷
+    codes "__asm__" ∷ codes "__attribute" ∷ codes "__attribute__" ∷ codes "__auto_type" ∷ codes "__auto_type__" ∷ codes "__complex" ∷
+    codes "__complex__" ∷ codes "__const" ∷ codes "__const__" ∷ codes "__extension" ∷ codes "__extension__" ∷ codes "__imag" ∷ codes "__imag__" ∷
+    codes "__inline" ∷ codes "__inline__" ∷ codes "__int128" ∷ codes "__int128__" ∷ codes "__label" ∷ codes "__label__" ∷ codes "__real" ∷
+    codes "__real__" ∷ codes "__restrict" ∷ codes "__restrict__" ∷ codes "__signed" ∷ codes "__signed__" ∷ codes "__thread" ∷ codes "__thread__" ∷
+    codes "__typeof" ∷ codes "__typeof__" ∷ codes "__volatile" ∷ codes "__volatile__" ∷ []
+
 -- one digit or more
 abbrev pub are_digits : List ℕ → Bool
 are_digits text = nat_lt 0 (length text) && list_all is_digit text
@@ -57,7 +67,7 @@ is_sized text = is_stem_with_digits (codes "any") text || is_stem_with_digits (c
 -- a Name that is no reserved word
 abbrev pub is_name : List ℕ → Bool
 is_name [] = false
-is_name (b ∷ bs) = starts_name b && not (list_any (bytes_eq (b ∷ bs)) reserved) && not (is_sized (b ∷ bs))
+is_name (b ∷ bs) = starts_name b && not (list_any (bytes_eq (b ∷ bs)) reserved) && not (list_any (bytes_eq (b ∷ bs)) gnu_words) && not (is_sized (b ∷ bs))
 
 -- what one token is to be: the NAME of the tree, at its place; or a fixed text, which may have to begin or to end at a place that the tree tells
 pub data Piece : Type 0 where

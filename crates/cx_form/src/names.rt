@@ -112,6 +112,48 @@ const RESERVED: [&str; 60] = [
     "global",
 ];
 
+const GNU_WORDS: [&str; 39] = [
+    "asm",
+    "typeof",
+    "__RTL",
+    "__seg_fs",
+    "__seg_gs",
+    "__alignof",
+    "__alignof__",
+    "__asm",
+    "__asm__",
+    "__attribute",
+    "__attribute__",
+    "__auto_type",
+    "__auto_type__",
+    "__complex",
+    "__complex__",
+    "__const",
+    "__const__",
+    "__extension",
+    "__extension__",
+    "__imag",
+    "__imag__",
+    "__inline",
+    "__inline__",
+    "__int128",
+    "__int128__",
+    "__label",
+    "__label__",
+    "__real",
+    "__real__",
+    "__restrict",
+    "__restrict__",
+    "__signed",
+    "__signed__",
+    "__thread",
+    "__thread__",
+    "__typeof",
+    "__typeof__",
+    "__volatile",
+    "__volatile__",
+];
+
 fn is_among(words: &[&str], text: &[u8]) -> bool
     ensures { result ≡ list_any (λ word. bytes_eq text.now word.now) words.now }
 {
@@ -123,6 +165,13 @@ fn is_reserved(text: &[u8]) -> bool
     ensures { result ≡ list_any (bytes_eq text.now) grammar.reserved }
 {
     is_among(&RESERVED, text)
+}
+
+#[tactic(auto, unfolding(crate::specs::Grammar::gnu_words))]
+fn is_gnu_word(text: &[u8]) -> bool
+    ensures { result ≡ list_any (bytes_eq text.now) grammar.gnu_words }
+{
+    is_among(&GNU_WORDS, text)
 }
 
 fn are_all_digits(text: &[u8]) -> bool
@@ -161,6 +210,8 @@ pub fn is_name(text: &[u8]) -> bool
 {
     match text {
         [] => false,
-        [b, ..] => starts_name(*b) && !is_reserved(text) && !is_sized(text),
+        [b, ..] => {
+            starts_name(*b) && !is_reserved(text) && !is_gnu_word(text) && !is_sized(text)
+        }
     }
 }

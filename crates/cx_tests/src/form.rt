@@ -69,6 +69,13 @@ fn c_files(rt: HostRuntime) -> Result<(), Fail> {
         ("struct a { unsigned long u; };", true),
         ("struct a { unsigned long u8x; };", true),
         ("struct a { unsigned long anyone; };", true),
+        // words of GNU C
+        ("struct a { unsigned long __const; };", false),
+        ("struct __typeof__ { unsigned long x; };", false),
+        ("void asm(void) { }", false),
+        ("void f(unsigned long __seg_gs) { }", false),
+        ("struct a { unsigned long __const_; };", true),
+        ("struct a { unsigned long attribute; };", true),
         // parameters
         ("void f(void) { }", true),
         ("void f() { }", false),
@@ -172,6 +179,11 @@ fn type_files(rt: HostRuntime) -> Result<(), Fail> {
         (
             pair,
             "region r = struct a { x: any8; y: any8; }; region r = struct a { x: any8; y: any8; };",
+            false,
+        ),
+        (
+            pair,
+            "region __inline = struct a { x: any8; y: any8; };",
             false,
         ),
         // the function and its line
