@@ -17,6 +17,6 @@ pub use list::{List, NoMemory};
 pub use memory::{AddFault, Memory, Region};
 pub use names::Names;
 pub use number::{CInt, fits, wrap};
-pub use place::place_of;
+pub use place::{place_after, place_of};
 pub use span::Span;
 pub use token::{Token, TokenKind};

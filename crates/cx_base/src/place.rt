@@ -31,3 +31,22 @@ pub fn place_of(text: &[u8], at: u32) -> (u32, u32)
         since_newline(before) as u32 + 1,
     )
 }
+
+/// From the place of the byte at the offset `from`, as `place_of` counts it, to the place of the
+/// byte at the later offset `at`: only the bytes between the two are read. Both lines and columns
+/// are counted from 1, and `at` may be the length of the text, its end.
+pub fn place_after(text: &[u8], from: u32, place: (u32, u32), at: u32) -> (u32, u32)
+    requires later { from ≤ at }
+    requires inside { at ≤ length text.now }
+    requires small { length text.now ≤ 2 ^ 24 }
+    requires line { place.0 ≡ line_of text.now from }
+    requires column { place.1 ≡ column_of text.now from }
+    ensures line { result.0 ≡ line_of text.now at }
+    ensures column { result.1 ≡ column_of text.now at }
+{
+    let between = &text[from as usize..at as usize];
+    let lines = newlines(between) as u32;
+    let since = since_newline(between);
+    let before = if since == between.len() { place.1 } else { 1 };
+    (place.0 + lines, before + since as u32)
+}
