@@ -1,6 +1,7 @@
 pub mod Adding
 pub mod Digits
 pub mod Finding
+pub mod General
 pub mod Places
 pub mod Positions
 pub mod Sizes

@@ -1,12 +1,13 @@
 -- Ranks of tags where a tag is added, and where one gets members.
 use Rattle.std.proofs.Common.{Result, ◌≡◌, ℕ, zero, suc, ◌+◌, add-one, ◌<◌, ◌≤◌, Bool, true, false, ◌&&◌, ◌==◌, List, [], ◌∷◌, ◌++◌, map, refl, ap, ◌∙◌, sym, Option, None, Some, length, arith, subst}
-use Rattle.std.specs.Prelude.{slice_get, slice_set, nat_lt, not, is_some, option_map}
+use Rattle.std.specs.Prelude.{slice_get, slice_set, nat_lt, is_some, option_map}
 use Rattle.std.proofs.lemmas.List.{map-append, map-set}
 use Rattle.std.proofs.lemmas.Option.{slice_get-map}
 use Rattle.std.proofs.lemmas.Bool.{ltb-true, lt-ltb}
 use Rattle.std.proofs.lemmas.Bool.Decides.{nat_tests}
 use Rattle.std.specs.List.{list_all}
 use Rattle.std.specs.Option.{option_map_or}
+use Rattle.cx_base.proofs.General.{both_true, true_both, not_true}
 use Rattle.cx_ctree.specs.Types.{TypeTree, void, int, pointer, array, tag}
 use Rattle.cx_ctree.specs.Decls.{TagTree, tag_tree, MemberTree, member_tree}
 use Rattle.cx_ctree.specs.declared.decl.Member.{Member}
@@ -56,13 +57,6 @@ ranked_also tags t h e none =
 pub ranked_tag : (tags : List Tag) (t : Tag) → AreRanked (map tag_tree tags) → t.rank ≡ 0 → t.members ≡ None → AreRanked (map tag_tree (tags ++ t ∷ []))
 ranked_tag tags t h e none = rw (map-append tag_tree tags (t ∷ [])) (ranked_also (map tag_tree tags) (tag_tree t) h e (rw none refl))
 
-both : (a b : Bool) → (a && b) ≡ true → (a ≡ true) × (b ≡ true)
-both true b h = (refl, h)
-both false b h = absurd cc
-
-also_both : (a b : Bool) → a ≡ true → b ≡ true → (a && b) ≡ true
-also_both a b h k = rw (h, k) refl
-
 rank_nought : (n : ℕ) → (n == 0) ≡ true → n ≡ 0
 rank_nought n h = grind (arith, nat_tests)
 
@@ -72,8 +66,8 @@ none_or_rank tags t h e = elim t.members as (λ ms. ranks tags t.rank ms ≡ tru
 -- a tag without members has the rank 0
 rank_without : (all tags : List TagTree) (k : ℕ) → list_all (λ t. ranks all t.rank t.members) tags ≡ true → option_map_or (λ t. is_some t.members) (slice_get tags k) false ≡ false → rank_of tags k ≡ 0
 rank_without all [] k h e = refl
-rank_without all (t ∷ tags) zero h e = none_or_rank all t (both _ _ h).0 e
-rank_without all (t ∷ tags) (suc k) h e = rank_without all tags k (both _ _ h).1 e
+rank_without all (t ∷ tags) zero h e = none_or_rank all t (both_true _ _ h).0 e
+rank_without all (t ∷ tags) (suc k) h e = rank_without all tags k (both_true _ _ h).1 e
 
 rank_le : (tags : List TagTree) (k : ℕ) → rank_of tags k ≤ greatest (λ t. t.rank) tags
 rank_le [] k = omega arith
@@ -92,7 +86,7 @@ below_kept tags more same r void h = h
 below_kept tags more same r (int t) h = h
 below_kept tags more same r (pointer t) h = h
 below_kept tags more same r (array t n) h = below_kept tags more same r t h
-below_kept tags more same r (tag k) h = rw (same k (ltb-true 0 (rank_of tags k) (both _ _ h).0)) h
+below_kept tags more same r (tag k) h = rw (same k (ltb-true 0 (rank_of tags k) (both_true _ _ h).0)) h
 
 below_most : (tags more : List TagTree) → ((j : ℕ) → 0 < rank_of tags j → rank_of more j ≡ rank_of tags j) → (env : Known) → env.tags ≡ tags → (t : TypeTree) → is_complete env t ≡ true → is_below more (suc (greatest (λ t. t.rank) tags)) t ≡ true
 below_most tags more same env e void h = absurd cc
@@ -102,33 +96,29 @@ below_most tags more same env e (array t n) h = below_most tags more same env e 
 below_most tags more same env e (tag k) h =
     let some : nat_lt 0 (rank_of tags k) ≡ true = rw (sym e) h in
     let le : rank_of tags k ≤ greatest (λ t. t.rank) tags = rank_le tags k in
-    rw (same k (ltb-true 0 (rank_of tags k) some)) (also_both _ _ some (lt-ltb (rank_of tags k) (suc (greatest (λ t. t.rank) tags)) (omega (arith, le))))
+    rw (same k (ltb-true 0 (rank_of tags k) some)) (true_both _ _ some (lt-ltb (rank_of tags k) (suc (greatest (λ t. t.rank) tags)) (omega (arith, le))))
 
 all_kept : {A : Type 0} (p q : A → Bool) → ((x : A) → p x ≡ true → q x ≡ true) → (xs : List A) → list_all p xs ≡ true → list_all q xs ≡ true
 all_kept p q f [] h = refl
-all_kept p q f (x ∷ xs) h = also_both _ _ (f x (both _ _ h).0) (all_kept p q f xs (both _ _ h).1)
+all_kept p q f (x ∷ xs) h = true_both _ _ (f x (both_true _ _ h).0) (all_kept p q f xs (both_true _ _ h).1)
 
 all_set : {A : Type 0} (p q : A → Bool) → ((x : A) → p x ≡ true → q x ≡ true) → (xs : List A) (k : ℕ) (y : A) → q y ≡ true → list_all p xs ≡ true → list_all q (slice_set xs k y) ≡ true
 all_set p q f [] k y e h = refl
-all_set p q f (x ∷ xs) zero y e h = also_both _ _ e (all_kept p q f xs (both _ _ h).1)
-all_set p q f (x ∷ xs) (suc k) y e h = also_both _ _ (f x (both _ _ h).0) (all_set p q f xs k y e (both _ _ h).1)
+all_set p q f (x ∷ xs) zero y e h = true_both _ _ e (all_kept p q f xs (both_true _ _ h).1)
+all_set p q f (x ∷ xs) (suc k) y e h = true_both _ _ (f x (both_true _ _ h).0) (all_set p q f xs k y e (both_true _ _ h).1)
 
 ranks_kept : (tags more : List TagTree) → ((j : ℕ) → 0 < rank_of tags j → rank_of more j ≡ rank_of tags j) → (r : ℕ) (ms : Option (List MemberTree)) → ranks tags r ms ≡ true → ranks more r ms ≡ true
 ranks_kept tags more same r None h = h
-ranks_kept tags more same r (Some ms) h = also_both _ _ (both _ _ h).0 (all_kept (λ m. is_below tags r m.ctype) (λ m. is_below more r m.ctype) (λ m. below_kept tags more same r m.ctype) ms (both _ _ h).1)
-
-pub is_not : (b : Bool) → not b ≡ true → b ≡ false
-is_not true h = absurd cc
-is_not false h = refl
+ranks_kept tags more same r (Some ms) h = true_both _ _ (both_true _ _ h).0 (all_kept (λ m. is_below tags r m.ctype) (λ m. is_below more r m.ctype) (λ m. below_kept tags more same r m.ctype) ms (both_true _ _ h).1)
 
 ranked_set : (env : Known) (k : ℕ) (name : Option ℕ) (union : Bool) (ms : List MemberTree) → AreRanked env.tags → may_have env k ms ≡ true → AreRanked (with_members env k name union ms).tags
 ranked_set env k name union ms h may =
     let t : TagTree = record { name = name; union_ = union; rank = suc (greatest (λ t. t.rank) env.tags); members = Some ms } in
     let more = slice_set env.tags k t in
-    let open_ : has_members env k ≡ false = is_not _ (both _ _ may).0 in
+    let open_ : has_members env k ≡ false = not_true _ (both_true _ _ may).0 in
     let same : (j : ℕ) → 0 < rank_of env.tags j → rank_of more j ≡ rank_of env.tags j = rank_kept env.tags k t (rank_without env.tags env.tags k h open_) in
     all_set (λ x. ranks env.tags x.rank x.members) (λ x. ranks more x.rank x.members) (λ x. ranks_kept env.tags more same x.rank x.members) env.tags k t
-    (also_both _ _ (lt-ltb 0 (suc (greatest (λ t. t.rank) env.tags)) (omega arith)) (all_kept (λ m. is_complete env m.ctype) (λ m. is_below more (suc (greatest (λ t. t.rank) env.tags)) m.ctype) (λ m. below_most env.tags more same env refl m.ctype) ms (both _ _ may).1))
+    (true_both _ _ (lt-ltb 0 (suc (greatest (λ t. t.rank) env.tags)) (omega arith)) (all_kept (λ m. is_complete env m.ctype) (λ m. is_below more (suc (greatest (λ t. t.rank) env.tags)) m.ctype) (λ m. below_most env.tags more same env refl m.ctype) ms (both_true _ _ may).1))
     h
 
 -- the tags of a unit where one gets its members
@@ -139,12 +129,12 @@ ranked_members u k t ms may e =
 
 -- a tag that may get members has none
 pub rank_open : (u : Unit) (k : ℕ) (ms : List MemberTree) → may_have (known_of u) k ms ≡ true → rank_of (tags_of u) k ≡ 0
-rank_open u k ms may = rank_without (tags_of u) (tags_of u) k u.ranked (is_not _ (both _ _ may).0)
+rank_open u k ms may = rank_without (tags_of u) (tags_of u) k u.ranked (not_true _ (both_true _ _ may).0)
 
 -- the members that a tag may get are below the next rank
 pub members_below : (u : Unit) (k : ℕ) (ms : List MemberTree) → may_have (known_of u) k ms ≡ true → list_all (λ m. is_below (tags_of u) (suc (greatest (λ t. t.rank) (tags_of u))) m.ctype) ms ≡ true
 members_below u k ms may =
-    all_kept (λ m. is_complete (known_of u) m.ctype) (λ m. is_below (tags_of u) (suc (greatest (λ t. t.rank) (tags_of u))) m.ctype) (λ m. below_most (tags_of u) (tags_of u) (λ j p. refl) (known_of u) refl m.ctype) ms (both _ _ may).1
+    all_kept (λ m. is_complete (known_of u) m.ctype) (λ m. is_below (tags_of u) (suc (greatest (λ t. t.rank) (tags_of u))) m.ctype) (λ m. below_most (tags_of u) (tags_of u) (λ j p. refl) (known_of u) refl m.ctype) ms (both_true _ _ may).1
 
 none_of : {A : Type 0} (o : Option A) → is_some o ≡ false → o ≡ None
 none_of None h = refl
@@ -153,15 +143,15 @@ none_of (Some x) h = absurd cc
 undeclared_at : (all tags : List TagTree) (k : ℕ) (old : TagTree) → list_all (λ t. ranks all t.rank t.members) tags ≡ true → option_map_or (λ t. is_some t.members) (slice_get tags k) false ≡ false → slice_get tags k ≡ Some old → old ≡ undeclared_members old.name old.union_
 undeclared_at all [] k old h open_ got = absurd cc
 undeclared_at all (t ∷ tags) zero old h open_ got =
-    let rank : t.rank ≡ 0 = none_or_rank all t (both _ _ h).0 open_ in
+    let rank : t.rank ≡ 0 = none_or_rank all t (both_true _ _ h).0 open_ in
     let members : t.members ≡ None = none_of t.members open_ in
     let e : t ≡ old = cc in
     sym e ∙ (λ i. record { name = t.name; union_ = t.union_; rank = rank i; members = members i }) ∙ ap (λ (o : TagTree). undeclared_members o.name o.union_) e
-undeclared_at all (t ∷ tags) (suc k) old h open_ got = undeclared_at all tags k old (both _ _ h).1 open_ got
+undeclared_at all (t ∷ tags) (suc k) old h open_ got = undeclared_at all tags k old (both_true _ _ h).1 open_ got
 
 -- a tag of the unit without members
 pub undeclared : (u : Unit) (k : ℕ) (ms : List MemberTree) (old : Tag) → may_have (known_of u) k ms ≡ true → slice_get u.tags k ≡ Some old → tag_tree old ≡ undeclared_members old.name old.union_
-undeclared u k ms old may got = undeclared_at (tags_of u) (tags_of u) k (tag_tree old) u.ranked (is_not _ (both _ _ may).0) (slice_get-map tag_tree u.tags k ∙ ap (option_map tag_tree) got)
+undeclared u k ms old may got = undeclared_at (tags_of u) (tags_of u) k (tag_tree old) u.ranked (not_true _ (both_true _ _ may).0) (slice_get-map tag_tree u.tags k ∙ ap (option_map tag_tree) got)
 
 set_nowhere : {A : Type 0} (xs : List A) (k : ℕ) (x : A) → slice_get xs k ≡ None → slice_set xs k x ≡ xs
 set_nowhere [] k x h = refl

@@ -1,19 +1,16 @@
 -- Tests of equal types and of what a name is declared as.
-use Rattle.std.proofs.Common.{◌≡◌, ℕ, ◌↔◌, Bool, true, false, ◌&&◌, ◌==◌, List, [], ◌∷◌, ◌++◌, Option, None, Some, refl, ap, ◌∙◌, sym, arith, cond, subst, ◌≤◌, ◌-◌, map, length, take, drop, get_or}
+use Rattle.std.proofs.Common.{◌≡◌, ℕ, ◌↔◌, Bool, true, false, ◌==◌, List, [], ◌∷◌, ◌++◌, Option, None, Some, refl, ap, ◌∙◌, sym, arith, cond, subst, ◌≤◌, ◌-◌, map, length, take, drop, get_or}
 use Rattle.std.proofs.Math.Seq.{take-length}
 use Rattle.cx_ctree.specs.declared.decl.Item.{Item}
 use Rattle.cx_ctree.specs.declared.decl.Item.TheVariants as i
 use Rattle.cx_ctree.specs.declared.decl.Decl.{Decl}
 use Rattle.std.proofs.lemmas.Bool.Decides.{nat_tests}
+use Rattle.cx_base.proofs.General.{both_true}
 use Rattle.cx_ctree.proofs.Numbers.{number_same}
 use Rattle.cx_ctree.specs.Types.{TypeTree, void, int, pointer, array, tag}
 use Rattle.cx_ctree.specs.Decls.{DeclTree, types, object, proto, function, decl_tree, item_tree}
 use Rattle.cx_cname.specs.Known.{Meaning, declared_as, declared_by}
 use Rattle.cx_cname.specs.Meanings.{same_sign, same_type, declares, found, found_first, declared_by_it}
-
-both : (a b : Bool) → (a && b) ≡ true → (a ≡ true) × (b ≡ true)
-both true b h = (refl, h)
-both false b h = absurd cc
 
 number_of : (a b : ℕ) → (a == b) ≡ true → a ≡ b
 number_of a b h = grind (arith, nat_tests)
@@ -33,9 +30,9 @@ sign_same false = refl
 
 pub same_means : (t w : TypeTree) → same_type t w ≡ true → t ≡ w
 same_means void void h = refl
-same_means (int t) (int w) h = ap int (number_same t w (number_of t.size w.size (both _ _ h).0) (sign_of t.signed w.signed (both _ _ h).1))
+same_means (int t) (int w) h = ap int (number_same t w (number_of t.size w.size (both_true _ _ h).0) (sign_of t.signed w.signed (both_true _ _ h).1))
 same_means (pointer t) (pointer w) h = ap pointer (same_means t w h)
-same_means (array t n) (array w m) h = let e : n ≡ m = number_of n m (both _ _ h).0 in let f : t ≡ w = same_means t w (both _ _ h).1 in cc
+same_means (array t n) (array w m) h = let e : n ≡ m = number_of n m (both_true _ _ h).0 in let f : t ≡ w = same_means t w (both_true _ _ h).1 in cc
 same_means (tag k) (tag j) h = ap tag (number_of k j h)
 same_means _ _ h = absurd cc
 

@@ -1,11 +1,10 @@
 -- The reading of a few texts.
-use Rattle.std.proofs.Common.{◌≡◌, List, [], ◌∷◌, Option, Some, None, refl, codes}
+use Rattle.std.proofs.Common.{◌≡◌, [], ◌∷◌, Some, None, refl, codes}
 use Rattle.std.proofs.Math.Nat.{le-max_left}
 use Rattle.cx_form.specs.declared.tree.ValueType.TheVariants as value
 use Rattle.cx_form.specs.declared.tree.Statement.TheVariants.{Load, Store}
 use Rattle.cx_form.specs.declared.tree.CFile.{CFile}
 use Rattle.cx_form.specs.declared.tree.Argument.TheVariants as argument
-use Rattle.cx_form.specs.declared.tree.TypeFile.{TypeFile}
 use Rattle.cx_form.specs.Tokens.{is_blank, starts_name, is_digit, goes_on, is_mark, token_len, word_at, tokens_from}
 use Rattle.cx_form.specs.Grammar.{reserved, gnu_words}
 use Rattle.cx_form.specs.Rules.{is_struct, is_statement, returns, is_function, is_c_form, are_in_order, is_region, are_both_void, are_agreed, are_both, is_type_form}

@@ -6,6 +6,7 @@ use Rattle.std.specs.Bool.{Decides}
 use Rattle.std.proofs.lemmas.Bool.{cases_Bool}
 use Rattle.std.proofs.lemmas.Bool.Decides.{nat_tests}
 use Rattle.std.proofs.lemmas.List.Sums.{AllPass-from_list_all, list_all-from_AllPass}
+use Rattle.cx_base.proofs.General.{both_true}
 use Rattle.cx_form.specs.declared.tree.Word.{Word}
 use Rattle.cx_form.specs.declared.tree.ValueType.{ValueType}
 use Rattle.cx_form.specs.declared.tree.ValueType.TheVariants as value
@@ -27,10 +28,6 @@ use Rattle.cx_form.specs.Rules.{is_there, holds_if_there, holds_of, are_distinct
 use Rattle.cx_form.proofs.Texts.{same, is_same}
 
 -- ---- tests put together
-
-both_true : (p q : Bool) → (p && q) ≡ true → (p ≡ true) × (q ≡ true)
-both_true true q e = (refl, e)
-both_true false q e = absurd cc
 
 and_true : (p q : Bool) → p ≡ true → q ≡ true → (p && q) ≡ true
 and_true true q e f = f
