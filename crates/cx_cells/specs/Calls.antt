@@ -6,7 +6,8 @@ use Rattle.cx_base.specs.Memory.{IsArgument, Valid}
 use Rattle.cx_base.specs.Number.{InRange}
 use Rattle.cx_base.specs.declared.memory.Region.{Region}
 use Rattle.cx_term.specs.Forms.{value}
-use Rattle.cx_cells.specs.Values.{values_of, all_values, CondHolds}
+use Rattle.cx_term.specs.Conditions.{Holds}
+use Rattle.cx_cells.specs.Values.{values_of, all_values}
 use Rattle.cx_cells.specs.Layouts.{Extent, Points, Extends, layout_of}
 use Rattle.cx_cells.specs.Meaning.{form_size}
 use Rattle.cx_cells.specs.Typing.{Typed}
@@ -37,13 +38,13 @@ ValuesHold v layout (k ∷ ks) (z ∷ zs) = ValueHolds v layout k z × ValuesHol
 pub record ArgsMeet (fn : FnType) (binders args : List ℤ) (layout : List Extent) : Type 0 where
   pub count : length binders ≡ fn.binders
   pub each : ValuesHold (values_of binders) layout fn.args args
-  pub conds : AllByRecursion (CondHolds (values_of binders)) fn.conds
+  pub conds : AllByRecursion (Holds (values_of binders)) fn.conds
 
 -- the number holds the result's kind, for some values of the result's own binders at which its conditions are true
 pub record ValueMeets (r : ResultType) (known : List ℤ) (layout : List Extent) (z : ℤ) : Type 0 where
   pub binders : List ℤ
   pub count : length binders ≡ r.binders
-  pub conds : AllByRecursion (CondHolds (values_of (known ++ binders))) r.conds
+  pub conds : AllByRecursion (Holds (values_of (known ++ binders))) r.conds
   pub value : ValueHolds (values_of (known ++ binders)) layout r.cell z
 
 -- what is returned meets the result's type; a function without one returns nothing

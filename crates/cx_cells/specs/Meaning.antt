@@ -5,7 +5,8 @@ use Rattle.std.specs.List.{AllByRecursion}
 use Rattle.cx_base.specs.Bytes.{number_of}
 use Rattle.cx_base.specs.Number.{wrapped}
 use Rattle.cx_term.specs.Forms.{value}
-use Rattle.cx_cells.specs.Values.{values_of, all_values, CondHolds, count_of}
+use Rattle.cx_term.specs.Conditions.{Holds}
+use Rattle.cx_cells.specs.Values.{values_of, all_values, count_of}
 use Rattle.cx_cells.specs.Layouts.{Extent, Points}
 use Rattle.cx_cells.specs.declared.cell.CellKind.{CellKind}
 use Rattle.cx_cells.specs.declared.cell.CellKind.TheVariants.{Val, Ptr}
@@ -35,12 +36,12 @@ CellHolds v layout bytes off c = KindHolds v layout bytes (off + c.at) c.size c.
 pub record PartHolds (known : List ℤ) (layout : List Extent) (bytes : List ℕ) (off : ℕ) (part : Part) : Type 0 where
   pub binders : List ℤ
   pub count : length binders ≡ part.binders
-  pub conds : AllByRecursion (CondHolds (values_of (known ++ binders))) part.conds
+  pub conds : AllByRecursion (Holds (values_of (known ++ binders))) part.conds
   pub cells : AllByRecursion (CellHolds (values_of (known ++ binders)) layout bytes off) part.cells
 
 -- the guard is true, and they hold the branch's part
 pub record BranchHolds (known : List ℤ) (layout : List Extent) (bytes : List ℕ) (off : ℕ) (branch : CaseBranch) : Type 0 where
-  pub guard : AllByRecursion (CondHolds (values_of known)) branch.guard
+  pub guard : AllByRecursion (Holds (values_of known)) branch.guard
   pub part : PartHolds known layout bytes off branch.part
 
 -- they hold some branch, where there are branches
@@ -52,7 +53,7 @@ CasesHold known layout bytes off (b ∷ bs) = Any (BranchHolds known layout byte
 pub record HeadHolds (form : Form) (args : List ℤ) (layout : List Extent) (bytes : List ℕ) : Type 0 where
   pub binders : List ℤ
   pub count : length binders ≡ form.binders
-  pub conds : AllByRecursion (CondHolds (values_of (args ++ binders))) form.conds
+  pub conds : AllByRecursion (Holds (values_of (args ++ binders))) form.conds
   pub cells : AllByRecursion (CellHolds (values_of (args ++ binders)) layout bytes 0) form.head
   pub cases : CasesHold (args ++ binders) layout bytes form.cases_at form.cases
 

@@ -1,8 +1,6 @@
--- Numbers as the values of symbols, and when a condition is true of them.
-use Rattle.std.specs.Prelude.{◌≢◌, ℕ, ℤ, pos, negsuc, ◌≤ℤ◌, List, map, slice_index_or, Option, Some, None}
+-- Numbers as the values of symbols.
+use Rattle.std.specs.Prelude.{ℕ, ℤ, pos, negsuc, List, map, slice_index_or, Option, Some, None}
 use Rattle.cx_term.specs.Forms.{Linear, value}
-use Rattle.cx_term.specs.declared.term.Ineq.{Ineq}
-use Rattle.cx_term.specs.declared.term.Ineq.TheVariants.{Ge, Ne}
 
 -- the numbers as the values of the symbols from 0 on; 0 past the end
 abbrev pub values_of : List ℤ → ℕ → ℤ
@@ -11,11 +9,6 @@ values_of zs s = slice_index_or zs s (pos 0)
 -- what the terms come to
 abbrev pub all_values : (ℕ → ℤ) → List Linear → List ℤ
 all_values v ts = map (value v) ts
-
--- the condition is true
-abbrev pub CondHolds : (ℕ → ℤ) → Ineq → Type 0
-CondHolds v (Ge t) = pos 0 ≤ℤ value v t
-CondHolds v (Ne t) = value v t ≢ pos 0
 
 -- the number as a count: none where it is negative
 abbrev pub count_of : ℤ → Option ℕ

@@ -12,7 +12,8 @@ use Rattle.cx_term.proofs.Tests.{and_left, and_right, and_both, or_cases, any_ca
 use Rattle.cx_term.proofs.Exact.{value-plus_times}
 use Rattle.cx_entail.specs.Ranges.{Span, Congruent, same_z}
 use Rattle.cx_entail.specs.Bounds.{InRanges, modulus, at_lows}
-use Rattle.cx_entail.specs.Shows.{Holds, passes, shown, same_parts, same_form, is_listed_by, listed, leaves_rest, less_one, minus_less_one, minus, shown_nonzero}
+use Rattle.cx_term.specs.Conditions.{Holds}
+use Rattle.cx_entail.specs.Shows.{passes, shown, same_parts, same_form, is_listed_by, listed, leaves_rest, less_one, minus_less_one, minus, shown_nonzero}
 use Rattle.cx_entail.proofs.Congruences.{zero_distance, congruent_sym, zero_rest}
 use Rattle.cx_entail.proofs.BoundLaws.{leaves_remainder}
 use Rattle.cx_entail.proofs.Sound.{fit_by, shown_sound}

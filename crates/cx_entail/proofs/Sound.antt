@@ -8,7 +8,8 @@ use Rattle.cx_term.specs.Sums.{plus_times, is_zero}
 use Rattle.cx_term.specs.Replaced.{coefficient}
 use Rattle.cx_entail.specs.Ranges.{Span}
 use Rattle.cx_entail.specs.Bounds.{InRanges}
-use Rattle.cx_entail.specs.Shows.{Holds, times_of, less_times, reduced, passes, step, shown_none, shown_once, shown}
+use Rattle.cx_term.specs.Conditions.{Holds}
+use Rattle.cx_entail.specs.Shows.{times_of, less_times, reduced, passes, step, shown_none, shown_once, shown}
 use Rattle.cx_term.specs.declared.term.Ineq.{Ineq}
 use Rattle.cx_term.specs.declared.term.Ineq.TheVariants.{Ge, Ne}
 use Rattle.cx_term.proofs.Ring.{neg-mul}

@@ -1,7 +1,8 @@
 -- What known conditions and ranges show of a form.
-use Rattle.std.specs.Prelude.{◌≢◌, ℕ, ℤ, pos, negsuc, neg_ℤ, ◌≤ℤ◌, ◌%◌, unsigned_abs, Bool, true, false, not, nat_lt, ◌==◌, ◌||◌, ◌&&◌, if◌then◌else◌, List, [], ◌∷◌, Option, Some, None, int_div, int_rem}
+use Rattle.std.specs.Prelude.{ℕ, ℤ, pos, negsuc, neg_ℤ, ◌%◌, unsigned_abs, Bool, true, false, not, nat_lt, ◌==◌, ◌||◌, ◌&&◌, if◌then◌else◌, List, [], ◌∷◌, Option, Some, None, int_div, int_rem}
 use Rattle.std.specs.List.{list_any, AllByRecursion}
-use Rattle.cx_term.specs.Forms.{Linear, value, fit, constant_of}
+use Rattle.cx_term.specs.Forms.{Linear, fit, constant_of}
+use Rattle.cx_term.specs.Conditions.{Holds}
 use Rattle.cx_term.specs.Sums.{plus_times, is_zero}
 use Rattle.cx_term.specs.Replaced.{coefficient}
 use Rattle.cx_term.specs.declared.term.Ineq.{Ineq}
@@ -9,11 +10,6 @@ use Rattle.cx_term.specs.declared.term.Ineq.TheVariants.{Ge, Ne}
 use Rattle.cx_entail.specs.Ranges.{Span, same_z}
 use Rattle.cx_entail.specs.Bounds.{InRanges, least, modulus, at_lows}
 use lib.Signed.{le_z}
-
--- the inequality is true
-abbrev pub Holds : (ℕ → ℤ) → Ineq → Type 0
-Holds v (Ge t) = pos 0 ≤ℤ value v t
-Holds v (Ne t) = value v t ≢ pos 0
 
 -- the fact is true for all values of the symbols within the ranges and the known conditions
 abbrev pub Follows : List Ineq → List Span → ((ℕ → ℤ) → Type 0) → Type 0

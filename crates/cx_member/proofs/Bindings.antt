@@ -7,7 +7,8 @@ use Rattle.std.proofs.lemmas.List.Elements.{All-push}
 use Rattle.cx_base.specs.declared.memory.Region.{Region}
 use Rattle.cx_cells.specs.Layouts.{layout_of}
 use Rattle.cx_cells.specs.Meaning.{PartHolds}
-use Rattle.cx_cells.specs.Values.{values_of, CondHolds}
+use Rattle.cx_term.specs.Conditions.{Holds}
+use Rattle.cx_cells.specs.Values.{values_of}
 use Rattle.cx_cells.specs.declared.form.Part.{Part}
 use Rattle.cx_member.specs.Reading.{AreSmall, bytes_at, CellsHold, PartHoldsWith, IsOnly, BindsNone, Begun, Binds}
 
@@ -59,7 +60,7 @@ module _ (rs : List Region) (i off : ℕ) (known : List ℤ) (part : Part) where
       record {
         binders = drop (length known) values;
         count = binders_count (CellsHold rs i off part.cells) known part.binders values b;
-        conds = subst (λ zs. AllByRecursion (CondHolds (values_of zs)) part.conds) e h.conds;
+        conds = subst (λ zs. AllByRecursion (Holds (values_of zs)) part.conds) e h.conds;
         cells = subst (λ zs. CellsHold rs i off part.cells (values_of zs)) e h.cells;
       }
 
@@ -67,7 +68,7 @@ module _ (rs : List Region) (i off : ℕ) (known : List ℤ) (part : Part) where
   part_to values b p =
       let e : known ++ p.binders ≡ values = b.only p.binders p.count p.cells in
       record {
-        conds = subst (λ zs. AllByRecursion (CondHolds (values_of zs)) part.conds) e p.conds;
+        conds = subst (λ zs. AllByRecursion (Holds (values_of zs)) part.conds) e p.conds;
         cells = subst (λ zs. CellsHold rs i off part.cells (values_of zs)) e p.cells;
       }
 

@@ -7,7 +7,8 @@ use Rattle.std.proofs.Math.Nat.{mul-le-mul_left}
 use Rattle.cx_base.specs.declared.memory.Region.{Region}
 use Rattle.cx_cells.specs.Layouts.{layout_of}
 use Rattle.cx_cells.specs.Meaning.{PartHolds, HeadHolds, CasesHold, known_to_elements, element_at, element_count, size_with}
-use Rattle.cx_cells.specs.Values.{values_of, CondHolds, count_of}
+use Rattle.cx_term.specs.Conditions.{Holds}
+use Rattle.cx_cells.specs.Values.{values_of, count_of}
 use Rattle.cx_cells.specs.declared.form.Form.{Form}
 use Rattle.cx_cells.specs.declared.form.Tail.{Tail}
 use Rattle.cx_member.specs.Reading.{bytes_at, CellsHold, BindsNone, Binds, HeadHoldsWith, ElementsHoldUpTo, TailHolds}
@@ -22,7 +23,7 @@ module _ (rs : List Region) (i : ℕ) (args : List ℤ) (form : Form) where
       record {
         binders = drop (length args) values;
         count = binders_count (CellsHold rs i 0 form.head) args form.binders values b;
-        conds = subst (λ zs. AllByRecursion (CondHolds (values_of zs)) form.conds) e h.conds;
+        conds = subst (λ zs. AllByRecursion (Holds (values_of zs)) form.conds) e h.conds;
         cells = subst (λ zs. CellsHold rs i 0 form.head (values_of zs)) e h.cells;
         cases = subst (λ zs. CasesHold zs (layout_of rs) (bytes_at rs i) form.cases_at form.cases) e h.cases;
       }
@@ -31,7 +32,7 @@ module _ (rs : List Region) (i : ℕ) (args : List ℤ) (form : Form) where
   head_to values b p =
       let e : args ++ p.binders ≡ values = b.only p.binders p.count p.cells in
       record {
-        conds = subst (λ zs. AllByRecursion (CondHolds (values_of zs)) form.conds) e p.conds;
+        conds = subst (λ zs. AllByRecursion (Holds (values_of zs)) form.conds) e p.conds;
         cells = subst (λ zs. CellsHold rs i 0 form.head (values_of zs)) e p.cells;
         cases = subst (λ zs. CasesHold zs (layout_of rs) (bytes_at rs i) form.cases_at form.cases) e p.cases;
       }

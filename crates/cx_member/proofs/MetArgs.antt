@@ -6,7 +6,8 @@ use Rattle.std.proofs.lemmas.Option.{get_or_from_slice_get, slice_get_within}
 use Rattle.cx_cells.specs.Calls.{ArgsMeet, ValuesHold, ValueHolds, ValueMeets, ResultMeets}
 use Rattle.cx_cells.specs.Kept.{FnKept, ResultKept}
 use Rattle.cx_cells.specs.Layouts.{Extent}
-use Rattle.cx_cells.specs.Values.{values_of, CondHolds}
+use Rattle.cx_term.specs.Conditions.{Holds}
+use Rattle.cx_cells.specs.Values.{values_of}
 use Rattle.cx_cells.specs.declared.calls.FnType.{FnType}
 use Rattle.cx_cells.specs.declared.calls.ResultType.{ResultType}
 use Rattle.cx_cells.specs.declared.form.Form.{Form}
@@ -27,7 +28,7 @@ module _ (fn : FnType) (args : List ℤ) (layout : List Extent) where
       let e : bs ≡ values = b.only bs m.count m.each in
       n (record {
         each = subst (λ zs. ValuesHold (values_of zs) layout fn.args args) e m.each;
-        conds = subst (λ zs. AllByRecursion (CondHolds (values_of zs)) fn.conds) e m.conds;
+        conds = subst (λ zs. AllByRecursion (Holds (values_of zs)) fn.conds) e m.conds;
       })
 
   pub meet_none : BindsNone (ArgsHold layout fn.args args) [] fn.binders → MeetNone fn args layout
@@ -42,7 +43,7 @@ module _ (r : ResultType) (known : List ℤ) (layout : List Extent) (z : ℤ) wh
       record {
         binders = drop (length known) values;
         count = binders_count (ResultHolds layout r.cell z) known r.binders values b;
-        conds = subst (λ zs. AllByRecursion (CondHolds (values_of zs)) r.conds) e h.conds;
+        conds = subst (λ zs. AllByRecursion (Holds (values_of zs)) r.conds) e h.conds;
         value = subst (λ zs. ValueHolds (values_of zs) layout r.cell z) e h.value;
       }
 
@@ -50,7 +51,7 @@ module _ (r : ResultType) (known : List ℤ) (layout : List Extent) (z : ℤ) wh
   value_to values b m =
       let e : known ++ m.binders ≡ values = b.only m.binders m.count m.value in
       record {
-        conds = subst (λ zs. AllByRecursion (CondHolds (values_of zs)) r.conds) e m.conds;
+        conds = subst (λ zs. AllByRecursion (Holds (values_of zs)) r.conds) e m.conds;
         value = subst (λ zs. ValueHolds (values_of zs) layout r.cell z) e m.value;
       }
 

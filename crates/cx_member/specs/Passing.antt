@@ -5,7 +5,8 @@ use Rattle.cx_base.specs.declared.memory.Region.{Region}
 use Rattle.cx_cells.specs.Calls.{ValueHolds, ValuesHold, ArgsMeet}
 use Rattle.cx_cells.specs.Layouts.{Extent, extent_of}
 use Rattle.cx_cells.specs.Symbols.{told_by, telling_kind}
-use Rattle.cx_cells.specs.Values.{values_of, CondHolds}
+use Rattle.cx_term.specs.Conditions.{Holds}
+use Rattle.cx_cells.specs.Values.{values_of}
 use Rattle.cx_cells.specs.declared.calls.FnType.{FnType}
 use Rattle.cx_cells.specs.declared.calls.ResultType.{ResultType}
 use Rattle.cx_cells.specs.declared.cell.CellKind.{CellKind}
@@ -38,7 +39,7 @@ pub record FnReads (fn : FnType) : Type 0 where
 
 pub record ArgsMeetWith (fn : FnType) (values args : List ℤ) (layout : List Extent) : Type 0 where
   pub each : ValuesHold (values_of values) layout fn.args args
-  pub conds : AllByRecursion (CondHolds (values_of values)) fn.conds
+  pub conds : AllByRecursion (Holds (values_of values)) fn.conds
 
 -- the arguments meet the function with these values of its binders, and with no others
 pub record MeetOnly (fn : FnType) (args : List ℤ) (layout : List Extent) (values : List ℤ) : Type 0 where
@@ -50,7 +51,7 @@ abbrev pub MeetNone : FnType → List ℤ → List Extent → Type 0
 MeetNone fn args layout = (bs : List ℤ) → ArgsMeet fn bs args layout → ⊥
 
 pub record ResultMeetsWith (r : ResultType) (values : List ℤ) (layout : List Extent) (z : ℤ) : Type 0 where
-  pub conds : AllByRecursion (CondHolds (values_of values)) r.conds
+  pub conds : AllByRecursion (Holds (values_of values)) r.conds
   pub value : ValueHolds (values_of values) layout r.cell z
 
 -- ---- memories

@@ -6,7 +6,8 @@ use Rattle.cx_cells.specs.Kept.{HasKindSize, AllTold, symbols_of}
 use Rattle.cx_cells.specs.Layouts.{layout_of}
 use Rattle.cx_cells.specs.Meaning.{CellHolds, PartHolds, CasesHold, ElementsHold, element_at, size_with}
 use Rattle.cx_cells.specs.Symbols.{told_by}
-use Rattle.cx_cells.specs.Values.{values_of, CondHolds}
+use Rattle.cx_term.specs.Conditions.{Holds}
+use Rattle.cx_cells.specs.Values.{values_of}
 use Rattle.cx_cells.specs.declared.cell.FlatCell.{FlatCell}
 use Rattle.cx_cells.specs.declared.form.Form.{Form}
 use Rattle.cx_cells.specs.declared.form.Part.{Part}
@@ -68,7 +69,7 @@ pub record Begun (H : (ℕ → ℤ) → Type 0) (known : List ℤ) (n : ℕ) (va
 
 -- with these values of the symbols the conditions of the part are true, and the bytes hold each of its cells
 pub record PartHoldsWith (values : List ℤ) (rs : List Region) (i off : ℕ) (part : Part) : Type 0 where
-  pub conds : AllByRecursion (CondHolds (values_of values)) part.conds
+  pub conds : AllByRecursion (Holds (values_of values)) part.conds
   pub cells : CellsHold rs i off part.cells (values_of values)
 
 -- ---- what is asked of a form, so that its cells can be read and its binders bound
@@ -98,7 +99,7 @@ pub record FormReads (form : Form) : Type 0 where
 
 -- with these values of the symbols the conditions of the head are true, and the bytes hold each of its cells, and some branch
 pub record HeadHoldsWith (values : List ℤ) (rs : List Region) (i : ℕ) (form : Form) : Type 0 where
-  pub conds : AllByRecursion (CondHolds (values_of values)) form.conds
+  pub conds : AllByRecursion (Holds (values_of values)) form.conds
   pub cells : CellsHold rs i 0 form.head (values_of values)
   pub cases : CasesHold values (layout_of rs) (bytes_at rs i) form.cases_at form.cases
 

@@ -2,7 +2,8 @@ ghost use Rattle.std.specs.Prelude.{◌≡◌, ◌≤◌, ◌^◌, ◌*ℤ◌, �
 ghost use Rattle.std.specs.List.{AllByRecursion};
 ghost use Rattle.cx_term.specs.Forms.{value, value_parts};
 ghost use Rattle.cx_term.specs.Sums.{AreUpTo};
-ghost use Rattle.cx_cells.specs.Values.{values_of, all_values, CondHolds};
+ghost use Rattle.cx_term.specs.Conditions.{Holds};
+ghost use Rattle.cx_cells.specs.Values.{values_of, all_values};
 ghost use Rattle.cx_member.specs.Reading.{AreSmall};
 
 use cx_term::{Ineq, Term};
@@ -86,7 +87,7 @@ pub(crate) fn are_values(values: &[i128], terms: &[Term], given: &[i128]) -> boo
 
 fn cond_holds(values: &[i128], c: &Ineq) -> bool
     requires { AreSmall values.now }
-    ensures { IsTrue result ↔ CondHolds (values_of values.now) c.now }
+    ensures { IsTrue result ↔ Holds (values_of values.now) c.now }
 {
     match c {
         Ineq::Ge(t) => value_of(values, t) >= 0,
@@ -97,7 +98,7 @@ fn cond_holds(values: &[i128], c: &Ineq) -> bool
 /// Whether the conditions are true of the numbers.
 pub(crate) fn conds_hold(values: &[i128], conds: &[Ineq]) -> bool
     requires { AreSmall values.now }
-    ensures { IsTrue result ↔ AllByRecursion (CondHolds (values_of values.now)) conds.now }
+    ensures { IsTrue result ↔ AllByRecursion (Holds (values_of values.now)) conds.now }
 {
     conds.iter().all(|c| cond_holds(values, c))
 }

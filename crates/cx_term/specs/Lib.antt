@@ -1,3 +1,4 @@
 pub mod Forms
 pub mod Sums
 pub mod Replaced
+pub mod Conditions

@@ -243,4 +243,20 @@ impl Ineq {
             Ineq::Ne(t) => Ineq::Ne(t.copy()),
         }
     }
+
+    /// Whether the two inequalities are the same.
+    pub fn same(&self, o: &Ineq) -> bool
+        ensures { IsTrue result ↔ (self.now ≡ o.now) }
+    {
+        match self {
+            Ineq::Ge(t) => match o {
+                Ineq::Ge(u) => t.same(u),
+                Ineq::Ne(_) => false,
+            },
+            Ineq::Ne(t) => match o {
+                Ineq::Ge(_) => false,
+                Ineq::Ne(u) => t.same(u),
+            },
+        }
+    }
 }
