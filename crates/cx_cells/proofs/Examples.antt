@@ -33,6 +33,7 @@ vector = record {
   cases_at = 0;
   cases = [];
   tail = Some (record { count = symbol_of 0; part = part 1 (cell 0 2 (unsigned 1) ∷ []) 2 });
+  shared = false;
 }
 
 vector_size : form_size vector (pos 3 ∷ []) ≡ Some 10
@@ -76,6 +77,7 @@ tagged = record {
       ∷ record { guard = Ge (is_number 0) ∷ []; part = part 0 [] 4 }
       ∷ [];
   tail = None;
+  shared = false;
 }
 
 abbrev tagged_bytes : List ℕ
@@ -120,6 +122,7 @@ node = record {
   cases_at = 0;
   cases = [];
   tail = None;
+  shared = false;
 }
 
 abbrev nodes : List Extent
@@ -163,6 +166,7 @@ array = record {
   cases_at = 0;
   cases = [];
   tail = Some (record { count = record { konst = pos 1; parts = (0, pos 1) ∷ [] }; part = part 0 [] 8 });
+  shared = false;
 }
 
 array_size : form_size array (pos 5 ∷ []) ≡ Some 48

@@ -1,8 +1,7 @@
 -- The types of functions and allocators: when arguments meet one, and when what a call gives meets it.
 use Rattle.std.specs.Prelude.{◌≡◌, ℕ, ℤ, pos, ◌*ℤ◌, List, [], ◌∷◌, ◌++◌, length, All, slice_get, IsSomeAnd, true, false, Option, Some, None}
 use Rattle.std.specs.List.{AllByRecursion}
-use Rattle.cx_base.specs.Bytes.{AreBytes}
-use Rattle.cx_base.specs.Memory.{IsArgument, Valid}
+use Rattle.cx_base.specs.Memory.{IsArgument}
 use Rattle.cx_base.specs.Number.{InRange}
 use Rattle.cx_base.specs.declared.memory.Region.{Region}
 use Rattle.cx_term.specs.Forms.{value}
@@ -10,7 +9,7 @@ use Rattle.cx_term.specs.Conditions.{Holds}
 use Rattle.cx_cells.specs.Values.{values_of, all_values}
 use Rattle.cx_cells.specs.Layouts.{Extent, Points, Extends, layout_of}
 use Rattle.cx_cells.specs.Meaning.{form_size}
-use Rattle.cx_cells.specs.Typing.{Typed}
+use Rattle.cx_cells.specs.Typing.{IsMemory, Typed}
 use Rattle.cx_cells.specs.declared.calls.AllocArg.{AllocArg}
 use Rattle.cx_cells.specs.declared.calls.AllocArg.TheVariants.{Number, Param, Over}
 use Rattle.cx_cells.specs.declared.calls.AllocType.{AllocType}
@@ -94,9 +93,8 @@ pub record AllocMeets (forms : List Form) (alloc : AllocType) (given args : List
 abbrev pub region_of : AllocType → List ℤ → Block → Region
 region_of alloc args b = record { base = b.base; name = alloc.region; args = args; bytes = b.bytes }
 
--- the block is one that the allocator may give: of that size, all 0 where it says so, and where no region is
+-- the block is one that the allocator may give: of that size, all 0 where it says so, and a memory with the regions before it
 pub record BlockMeets (alloc : AllocType) (args : List ℤ) (size : ℕ) (before : List Region) (b : Block) : Type 0 where
-  pub bytes : AreBytes b.bytes
   pub sized : length b.bytes ≡ size
   pub zero : alloc.zero ≡ true → All (λ n. n ≡ 0) b.bytes
-  pub valid : Valid (before ++ region_of alloc args b ∷ [])
+  pub memory : IsMemory (before ++ region_of alloc args b ∷ [])

@@ -154,11 +154,17 @@ is_value Any = false
 is_value (Val signed u) = true
 is_value (Ptr name args off null) = false
 
+abbrev pub is_any : CellKind → Bool
+is_any Any = true
+is_any (Val signed u) = false
+is_any (Ptr name args off null) = false
+
 -- its own binders begin at first
 pub record ResultKept (forms : List Form) (first : ℕ) (r : ResultType) : Type 0 where
   pub binders : r.binders ≤ 16
   pub few_conds : length r.conds < 2 ^ 32
   pub cell : KindIn forms (first + r.binders) 0 0 r.cell
+  pub not_any : is_any r.cell ≡ false
   pub conds : All (CondIn (first + r.binders) 0 0) r.conds
   pub told : (s : ℕ) → first ≤ s → s < first + r.binders → IsSome (told_by s r.cell)
 
@@ -167,6 +173,7 @@ pub record FnKept (forms : List Form) (fn : FnType) : Type 0 where
   pub few_args : length fn.args ≤ 8
   pub few_conds : length fn.conds ≤ 32 + 2 * count_by is_value fn.args
   pub args : All (KindIn forms fn.binders 0 0) fn.args
+  pub none_any : All (λ k. is_any k ≡ false) fn.args
   pub conds : All (CondIn fn.binders 0 0) fn.conds
   pub told : (s : ℕ) → s < fn.binders → IsSome (telling_kind s fn.args)
   pub result : IfSome fn.result (ResultKept forms fn.binders)

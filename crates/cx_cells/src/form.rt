@@ -45,6 +45,8 @@ pub struct Form {
     /// The branches, one of which holds; none where the head is the cells alone.
     pub cases: List<CaseBranch>,
     pub tail: Option<Tail>,
+    /// Whether the type is marked shared: others may rewrite its regions between two accesses.
+    pub shared: bool,
 }
 
 /// The same conditions once more.
@@ -151,6 +153,7 @@ impl Form {
             cases_at: self.cases_at,
             cases,
             tail,
+            shared: self.shared,
         })
     }
 }

@@ -7,6 +7,7 @@ mod calls;
 mod cells;
 mod forms;
 mod names;
+mod order;
 mod pairs;
 
 use crate::calls::{AllocType, FnType, GlobalType};

@@ -17,5 +17,5 @@ pub use cell::{CellKind, FlatCell};
 pub use form::{CaseBranch, Form, Part, Tail};
 pub use range::cell_range;
 pub use rules::Rules;
-pub use script::{Answer, Block, Script};
+pub use script::{Answer, Block, Change, Rewrite, Script};
 pub use telling::{Told, kind_names, telling_cell, telling_kind, told_by};

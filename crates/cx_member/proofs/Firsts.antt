@@ -2,10 +2,9 @@
 use Rattle.std.specs.Prelude.{◌≡◌, ◌↔◌, ℕ, ◌<◌, List, All, slice_get, IsSomeAnd, MatchOption, Option, Some, None}
 use Rattle.std.proofs.Common.{arith, refl, ap, subst}
 use Rattle.std.proofs.lemmas.Option.{get_or_from_slice_get, slice_get_within, same_Some}
-use Rattle.cx_base.specs.Memory.{Valid}
 use Rattle.cx_base.specs.declared.memory.Region.{Region}
 use Rattle.cx_cells.specs.Layouts.{layout_of}
-use Rattle.cx_cells.specs.Typing.{RegionHolds, Typed}
+use Rattle.cx_cells.specs.Typing.{IsMemory, RegionHolds, Typed}
 use Rattle.cx_cells.specs.declared.form.Form.{Form}
 use Rattle.cx_member.specs.First.{IsFirstUntyped}
 
@@ -28,8 +27,8 @@ module _ (forms : List Form) (rs : List Region) where
   same_first i j f g = let a = not_before i j f g in let b = not_before j i g f in omega arith
 
   -- no answer is that all hold, and an answer that the region there is the first that does not
-  pub typed_none : (r : Option ℕ) → Valid rs → MatchOption r (All (RegionHolds forms (layout_of rs)) rs) (IsFirstUntyped forms rs) → (r ≡ None) ↔ Typed forms rs
-  typed_none None v h = ((λ e. record { valid = v; holds = h }), (λ t. refl))
+  pub typed_none : (r : Option ℕ) → IsMemory rs → MatchOption r (All (RegionHolds forms (layout_of rs)) rs) (IsFirstUntyped forms rs) → (r ≡ None) ↔ Typed forms rs
+  typed_none None v h = ((λ e. record { memory = v; holds = h }), (λ t. refl))
   typed_none (Some j) v f = ((λ e. absurd (cc)), (λ t. absurd (first_fails j f t.holds)))
 
   pub typed_some : (r : Option ℕ) → MatchOption r (All (RegionHolds forms (layout_of rs)) rs) (IsFirstUntyped forms rs) → (i : ℕ) → (r ≡ Some i) ↔ IsFirstUntyped forms rs i

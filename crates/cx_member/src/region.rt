@@ -1,7 +1,8 @@
-ghost use Rattle.std.specs.Prelude.{◌≡◌, ◌<◌, ◌↔◌, All, IsTrue, IsSomeAnd, None, Some, MatchOption, ℕ, length, slice_get};
+ghost use Rattle.std.specs.Prelude.{◌≡◌, ◌<◌, ◌↔◌, All, IsTrue, IfSome, IsSomeAnd, None, Some, MatchOption, ℕ, length, slice_get};
+ghost use Rattle.cx_base.specs.Bytes.{AreBytes};
 ghost use Rattle.cx_base.specs.Memory.{Valid};
 ghost use Rattle.cx_cells.specs.Layouts.{layout_of};
-ghost use Rattle.cx_cells.specs.Typing.{RegionHolds, Typed};
+ghost use Rattle.cx_cells.specs.Typing.{IsMemory, RegionHolds, Typed};
 ghost use Rattle.cx_member.specs.First.{IsFirstUntyped};
 
 use crate::form::form_holds;
@@ -13,6 +14,35 @@ fn known(memory: &Memory)
     ensures { Valid memory.now }
 {
     let _count = memory.len();
+}
+
+/// Tells a caller's proof that bytes are numbers below 256.
+fn bytes_known(bytes: &[u8])
+    ensures { AreBytes bytes.now }
+{
+    for i in 0..bytes.len() {
+        let _byte = bytes[i];
+    }
+}
+
+/// Tells a caller's proof that the bytes of the region at place `i` are numbers below 256.
+fn region_known(memory: &Memory, i: u32)
+    ensures { IfSome (slice_get memory.now i) (λ r. AreBytes r.bytes) }
+{
+    if let Some(r) = memory.region(i) {
+        bytes_known(r.bytes.as_slice());
+    }
+}
+
+/// Tells a caller's proof that the regions of the memory are one.
+fn memory_known(memory: &Memory)
+    ensures { IsMemory memory.now }
+{
+    known(memory);
+    let count = memory.len();
+    for i in 0..count {
+        region_known(memory, i);
+    }
 }
 
 fn region_holds(rules: &Rules, memory: &Memory, index: u32, region: &Region) -> bool
@@ -57,6 +87,6 @@ pub fn typed(rules: &Rules, memory: &Memory) -> Option<u32>
     ensures none { (result ≡ None) ↔ Typed rules.now.forms memory.now }
     ensures some { (i : ℕ) → (result ≡ Some i) ↔ IsFirstUntyped rules.now.forms memory.now i }
 {
-    known(memory);
+    memory_known(memory);
     first_untyped(rules, memory)
 }

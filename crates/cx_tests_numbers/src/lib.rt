@@ -1,9 +1,6 @@
-//! The tests of linear forms, ranges and flat rules: tables and worked examples, of what no contract
-//! says.
+//! The tests of linear forms and ranges: tables and worked examples, of what no contract says.
 #![tactic(auto)]
 
-#[cfg(test)]
-mod cells;
 #[cfg(test)]
 mod entail;
 #[cfg(test)]

@@ -1,7 +1,7 @@
-ghost use Rattle.std.specs.Prelude.{◌↔◌, ◌≡◌, ◌≢◌, ℕ, ◌+◌, ◌*◌, ◌<◌, ◌≤◌, IsTrue, IsSome, IfSome, All, count_by, length};
+ghost use Rattle.std.specs.Prelude.{◌↔◌, ◌≡◌, ◌≢◌, ℕ, ◌+◌, ◌*◌, ◌<◌, ◌≤◌, IsTrue, IsSome, IfSome, All, false, count_by, length};
 ghost use Rattle.cx_base.specs.Memory.{IsArgument};
 ghost use Rattle.cx_cells.specs.Symbols.{told_by, telling_kind};
-ghost use Rattle.cx_cells.specs.Kept.{CondIn, KindIn, is_value, ResultKept, FnKept, AllocArgKept, AllocKept, GlobalKept};
+ghost use Rattle.cx_cells.specs.Kept.{CondIn, KindIn, is_any, is_value, ResultKept, FnKept, AllocArgKept, AllocKept, GlobalKept};
 
 use crate::calls::{AllocArg, AllocType, FnType, GlobalType, ResultType};
 use crate::cell::CellKind;
@@ -25,6 +25,31 @@ fn is_value(kind: &CellKind) -> bool
             null: _,
         } => false,
     }
+}
+
+fn is_any(kind: &CellKind) -> bool
+    ensures { result ≡ is_any kind.now }
+{
+    match kind {
+        CellKind::Any => true,
+        CellKind::Val {
+            signed: _,
+            value: _,
+        } => false,
+        CellKind::Ptr {
+            name: _,
+            args: _,
+            off: _,
+            null: _,
+        } => false,
+    }
+}
+
+/// Whether no kind is that of any bytes.
+fn none_any(kinds: &[CellKind]) -> bool
+    ensures { IsTrue result ↔ All (λ k. is_any k ≡ false) kinds.now }
+{
+    kinds.iter().all(|k| !is_any(k))
 }
 
 fn value_count(kinds: &[CellKind]) -> usize
@@ -74,6 +99,7 @@ fn result_kept(forms: &[Form], first: u32, r: &ResultType) -> bool
     let past = first + r.binders;
     r.conds.len() < 4294967296
         && kind_in(forms, &r.cell, past, 0, 0)
+        && !is_any(&r.cell)
         && conds_in(r.conds.as_slice(), past, 0, 0)
         && told_by_kind(&r.cell, first, past)
 }
@@ -101,10 +127,11 @@ fn has_few_conds(f: &FnType) -> bool
 fn terms_kept(forms: &[Form], f: &FnType) -> bool
     requires binders { f.now.binders ≤ 24 }
     requires args { length f.now.args ≤ 8 }
-    ensures { IsTrue result ↔ ((length f.now.conds ≤ 32 + 2 * count_by is_value f.now.args) × All (KindIn forms.now f.now.binders 0 0) f.now.args × All (CondIn f.now.binders 0 0) f.now.conds × IfSome f.now.result (ResultKept forms.now f.now.binders)) }
+    ensures { IsTrue result ↔ ((length f.now.conds ≤ 32 + 2 * count_by is_value f.now.args) × All (KindIn forms.now f.now.binders 0 0) f.now.args × All (λ k. is_any k ≡ false) f.now.args × All (CondIn f.now.binders 0 0) f.now.conds × IfSome f.now.result (ResultKept forms.now f.now.binders)) }
 {
     has_few_conds(f)
         && kinds_in(forms, f.args.as_slice(), f.binders)
+        && none_any(f.args.as_slice())
         && conds_in(f.conds.as_slice(), f.binders, 0, 0)
         && some_result_kept(forms, f.binders, &f.result)
 }

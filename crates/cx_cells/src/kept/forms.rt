@@ -6,7 +6,7 @@ ghost use Rattle.cx_cells.specs.Kept.{CondIn, CellKept, EndsBefore, AllTold, Par
 use crate::cell::FlatCell;
 use crate::form::{CaseBranch, Form, Part, Tail};
 use crate::kept::cells::{all_told, cells_kept, conds_in, term_in};
-use crate::kept::pairs::all_apart;
+use crate::kept::order::are_in_order;
 use crate::telling::{kind_names, telling_cell};
 
 /// Whether the part keeps its facts, where symbols below `known` are known and its own begin at `first`.
@@ -22,7 +22,7 @@ fn part_kept(forms: &[Form], part: &Part, known: u32, first: u32) -> bool
         && part.cells.len() <= 1024
         && conds_in(part.conds.as_slice(), known, first, past)
         && cells_kept(forms, part.cells.as_slice(), known, first, past, part.size)
-        && all_apart(part.cells.as_slice())
+        && are_in_order(part.cells.as_slice())
         && all_told(part.cells.as_slice(), first, past)
 }
 
@@ -162,7 +162,7 @@ fn head_kept(forms: &[Form], form: &Form) -> bool
     let head = form.head.as_slice();
     conds_in(form.conds.as_slice(), past, 0, 0)
         && cells_kept(forms, head, past, 0, 0, form.head_size)
-        && all_apart(head)
+        && are_in_order(head)
         && all_told(head, form.params, past)
 }
 

@@ -1,9 +1,8 @@
 ghost use Rattle.std.specs.Prelude.{◌≢◌, ◌↔◌, ◌<◌, IsTrue, All, AllPairs, length};
-ghost use Rattle.cx_cells.specs.Kept.{EndsBefore, SameCall};
+ghost use Rattle.cx_cells.specs.Kept.{SameCall};
 ghost use Rattle.cx_cells.specs.Pairs.{PairsAt};
 
 use crate::calls::{AllocType, FnType, GlobalType};
-use crate::cell::FlatCell;
 use cx_base::List;
 
 /// What a list keeps apart, each item from each later one.
@@ -13,15 +12,6 @@ pub(crate) trait Apart {
     /// Whether it is kept apart from the later one.
     fn is_apart(&self, later: &Self) -> bool
         ensures { IsTrue result ↔ apart self.now later.now };
-}
-
-/// The earlier cell ends before the later one begins.
-impl Apart for FlatCell {
-    ghost apart = { EndsBefore };
-
-    fn is_apart(&self, later: &FlatCell) -> bool {
-        u64::from(self.at) + u64::from(self.size) <= u64::from(later.at)
-    }
 }
 
 /// No two names are equal.

@@ -21,9 +21,10 @@ returns c = (
     few_args = omega arith;
     few_conds = p.0;
     args = p.1;
-    conds = p.2;
+    none_any = p.2;
+    conds = p.3;
     told = subst (Told c.args.f.now.binders) c.as_slice.ensures (c.if-not-told_by_kinds.ensures.0 refl);
-    result = p.3;
+    result = p.4;
   }),
-  (λ k. c.terms_kept.ensures.1 (k.few_conds, k.args, k.conds, k.result)),
+  (λ k. c.terms_kept.ensures.1 (k.few_conds, k.args, k.none_any, k.conds, k.result)),
 )

@@ -72,6 +72,7 @@ fn vec(alloc: Global) -> Result<Form, NoMemory> {
         cases_at: 0,
         cases: List::new(alloc),
         tail: None,
+        shared: false,
     })
 }
 
@@ -94,6 +95,7 @@ fn array(alloc: Global) -> Form {
                 size: 8,
             },
         }),
+        shared: false,
     }
 }
 
