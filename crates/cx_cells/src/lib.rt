@@ -9,6 +9,7 @@ mod form;
 mod kept;
 mod range;
 mod rules;
+mod same;
 mod script;
 mod telling;
 
