@@ -7,15 +7,19 @@ mod calls;
 mod cells;
 mod forms;
 mod names;
+mod numbers;
 mod order;
 mod pairs;
+mod texts;
 
 use crate::calls::{AllocType, FnType, GlobalType};
 use crate::form::Form;
 use crate::kept::calls::{allocs_kept, are_no_allocs, fns_kept, globals_kept};
 use crate::kept::forms::forms_kept;
 use crate::kept::names::{are_names, are_short};
+use crate::kept::numbers::{names_apart, names_differ};
 use crate::kept::pairs::all_apart;
+use crate::kept::texts::texts_differ;
 use cx_base::List;
 
 /// Whether there are fewer than 2^32 of each.
@@ -33,12 +37,54 @@ fn are_few(
         && globals.len() < 4294967296
 }
 
+/// Whether no two of the names are equal. Where there is no memory to number them they are compared
+/// one by one.
+fn none_equal(names: &List<List<u8>>) -> bool
+    requires { length names.now < 2 ^ 32 }
+    ensures { IsTrue result ↔ AllPairs (λ a b. a ≢ b) names.now }
+{
+    match texts_differ(names.alloc(), names.as_slice()) {
+        Ok(differ) => differ,
+        Err(_) => all_apart(names.as_slice()),
+    }
+}
+
 /// Whether each is a name of fewer than 2^32 bytes, and no two are equal.
 fn names_kept(names: &List<List<u8>>) -> bool
+    requires { length names.now < 2 ^ 32 }
     ensures { IsTrue result ↔ (All (λ n. length n < 2 ^ 32) names.now × All IsName names.now × AllPairs (λ a b. a ≢ b) names.now) }
 {
-    let names = names.as_slice();
-    are_short(names) && are_names(names) && all_apart(names)
+    are_short(names.as_slice()) && are_names(names.as_slice()) && none_equal(names)
+}
+
+/// Whether no two functions have one name.
+fn fns_differ(fns: &List<FnType>) -> bool
+    ensures { IsTrue result ↔ AllPairs (λ f g. f.name ≢ g.name) fns.now }
+{
+    match names_differ(fns.alloc(), fns.as_slice()) {
+        Ok(differ) => differ,
+        Err(_) => all_apart(fns.as_slice()),
+    }
+}
+
+/// Whether no two globals have one name.
+fn globals_differ(globals: &List<GlobalType>) -> bool
+    ensures { IsTrue result ↔ AllPairs (λ g h. g.name ≢ h.name) globals.now }
+{
+    match names_differ(globals.alloc(), globals.as_slice()) {
+        Ok(differ) => differ,
+        Err(_) => all_apart(globals.as_slice()),
+    }
+}
+
+/// Whether no function has an allocator's name.
+fn fns_no_allocs(fns: &List<FnType>, allocs: &List<AllocType>) -> bool
+    ensures { IsTrue result ↔ All (λ f. All (λ a. f.name ≢ a.name) allocs.now) fns.now }
+{
+    match names_apart(fns.alloc(), fns.as_slice(), allocs.as_slice()) {
+        Ok(apart) => apart,
+        Err(_) => are_no_allocs(fns.as_slice(), allocs.as_slice()),
+    }
 }
 
 /// Whether no two functions have one name, no two globals have one, no two allocators are for one
@@ -46,10 +92,10 @@ fn names_kept(names: &List<List<u8>>) -> bool
 fn differ(fns: &List<FnType>, allocs: &List<AllocType>, globals: &List<GlobalType>) -> bool
     ensures { IsTrue result ↔ (AllPairs (λ f g. f.name ≢ g.name) fns.now × AllPairs (λ g h. g.name ≢ h.name) globals.now × AllPairs (λ a b. SameCall a b → ⊥) allocs.now × All (λ f. All (λ a. f.name ≢ a.name) allocs.now) fns.now) }
 {
-    all_apart(fns.as_slice())
-        && all_apart(globals.as_slice())
+    fns_differ(fns)
+        && globals_differ(globals)
         && all_apart(allocs.as_slice())
-        && are_no_allocs(fns.as_slice(), allocs.as_slice())
+        && fns_no_allocs(fns, allocs)
 }
 
 /// Whether each form, function, allocator and global keeps its facts.
