@@ -19,13 +19,16 @@ module _ (texts : List (List ℕ)) (i n : ℕ) (text : List ℕ) (within : i < l
   -- a number below i is that of an equal text before it
   pub equal_before : n < i → AllPairs (λ x y. x ≢ y) texts → ⊥
   equal_before low a =
-      let p : bytes_eq text (get_or (take i texts) n text) ≡ true = subst (λ k. bytes_eq text (get_or (take i texts) k text) ≡ true) (sym number) (passes_at_first (bytes_eq text) (take i texts) text (omega (arith, count, number))) in
+      let first = passes_at_first (bytes_eq text) (take i texts) text (omega (arith, count, number)) in
+      let p : bytes_eq text (get_or (take i texts) n text) ≡ true = subst (λ k. bytes_eq text (get_or (take i texts) k text) ≡ true) (sym number) first in
       let e : text ≡ get_or (take i texts) n text = (bytes_eq-Decides text (get_or (take i texts) n text)).0 p in
       a n i text low within (sym (get_or-take i texts n text low) ∙ sym e ∙ here)
 
   -- with no number below i the text is a new one
   pub added : i ≤ n → numbered (take i texts) text ≡ take (i + 1) texts
   added h =
-      let none : list_any (bytes_eq text) (take i texts) ≡ false = none_passes (bytes_eq text) (take i texts) (λ k d l. fails_before_first (bytes_eq text) (take i texts) k d (omega (arith, count, number))) in
+      let before : (k : ℕ) (d : List ℕ) → k < length (take i texts) → bytes_eq text (get_or (take i texts) k d) ≡ false =
+      λ k d l. fails_before_first (bytes_eq text) (take i texts) k d (omega (arith, count, number)) in
+      let none : list_any (bytes_eq text) (take i texts) ≡ false = none_passes (bytes_eq text) (take i texts) before in
       let next : take (i + 1) texts ≡ take i texts ++ text ∷ [] = subst (λ t. take (i + 1) texts ≡ take i texts ++ t ∷ []) (sym here) (take_more texts i text within) in
       rw none (sym next)
