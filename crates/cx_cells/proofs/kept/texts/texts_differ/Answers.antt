@@ -1,8 +1,6 @@
-use Rattle.std.proofs.Common.{◌≡◌, ◌≢◌, ◌+◌, ℕ, List, length, take, get_or, sym, subst, rules, arith, refl, true, false, ◌∙◌}
+use Rattle.std.proofs.Common.{◌≡◌, ◌≢◌, take, subst, arith, refl, true, false, ◌∙◌}
 use Rattle.std.proofs.lemmas.List.{take_all}
-use Rattle.std.specs.List.{position_or_len}
 use Rattle.std.specs.Prelude.{AllPairs}
-use Rattle.std.specs.Str.{bytes_eq}
 use Rattle.cx_cells.proofs.Numbered.{equal_before, added}
 use Rattle.cx_cells.proofs.kept.texts.texts_differ.Goals as goal
 
