@@ -57,7 +57,7 @@ up_to-with_parts n m k (q ∷ qs) ps g h =
     (up_to-with_parts (n + m) m k qs (with_part q.0 (k *ℤ q.1) ps) g.1 (up_to-with_part n m q.0 (k *ℤ q.1) ps g.0 h))
 
 -- a factor and coefficients of at most 2^32 give products of at most 2^64
-products_small : (k : ℤ) (qs : List (ℕ × ℤ)) → unsigned_abs k ≤ 2 ^ 32 → AreUpTo (2 ^ 32) qs → AllByRecursion (λ q. unsigned_abs (k *ℤ q.1) ≤ 2 ^ 65) qs
+pub products_small : (k : ℤ) (qs : List (ℕ × ℤ)) → unsigned_abs k ≤ 2 ^ 32 → AreUpTo (2 ^ 32) qs → AllByRecursion (λ q. unsigned_abs (k *ℤ q.1) ≤ 2 ^ 65) qs
 products_small k [] g h = tt
 products_small k (q ∷ qs) g h = (times_fits k q.1 (omega (arith, g)) (h.0), products_small k qs g h.1)
 

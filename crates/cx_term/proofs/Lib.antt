@@ -5,3 +5,4 @@ pub mod Canonical
 pub mod Limits
 pub mod Exact
 pub mod AllReplaced
+pub mod Combined

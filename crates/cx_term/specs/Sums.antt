@@ -1,7 +1,7 @@
 -- The sum of a form and a multiple of another.
-use Rattle.std.specs.Prelude.{ℕ, suc, ℤ, ◌+ℤ◌, ◌*ℤ◌, List, [], ◌∷◌, ◌≤◌, unsigned_abs, Option, Some, None, if◌then◌else◌, nat_lt, ◌==◌, drop, Bool}
+use Rattle.std.specs.Prelude.{ℕ, suc, ℤ, pos, ◌+ℤ◌, ◌*ℤ◌, List, [], ◌∷◌, ◌≤◌, unsigned_abs, Option, Some, None, if◌then◌else◌, nat_lt, ◌==◌, drop, Bool}
 use Rattle.std.specs.List.{AllByRecursion}
-use Rattle.cx_term.specs.Forms.{Linear}
+use Rattle.cx_term.specs.Forms.{Linear, constant_of}
 
 abbrev pub is_zero : ℤ → Bool
 is_zero z = unsigned_abs z == 0
@@ -37,6 +37,14 @@ with_parts k (q ∷ qs) ps = with_parts k qs (with_part q.0 (k *ℤ q.1) ps)
 -- the form t and k times the form o
 abbrev pub plus_times : ℤ → Linear → Linear → Linear
 plus_times k o t = record { konst = t.konst +ℤ k *ℤ o.konst; parts = with_parts k o.parts t.parts }
+
+-- k times the form t, m times the form o, and the number c
+abbrev pub combined : ℤ → Linear → ℤ → Linear → ℤ → Linear
+combined k t m o c = plus_times m o (plus_times k t (constant_of c))
+
+-- the form t and the number z
+abbrev pub plus_number : ℤ → Linear → Linear
+plus_number z t = plus_times (pos 1) (constant_of z) t
 
 -- how many parts have a symbol below s
 abbrev pub place_in : ℕ → List (ℕ × ℤ) → ℕ

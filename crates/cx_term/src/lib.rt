@@ -1,6 +1,7 @@
 //! Linear forms over numbered symbols, exact and within limits.
 #![tactic(auto)]
 
+mod combine;
 mod parts;
 mod replace;
 mod term;

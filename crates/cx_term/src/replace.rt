@@ -8,7 +8,7 @@ use crate::term::{Term, times_konst};
 use arrayvec::ArrayVec;
 
 /// 2^64, at which a constant is cut in two, so that no product passes 128 bits.
-const CUT: i128 = 18446744073709551616;
+pub(crate) const CUT: i128 = 18446744073709551616;
 
 /// The form at `s`, the number 0 past the end.
 fn form_at(forms: &[Term], s: u32) -> Term
@@ -43,7 +43,7 @@ fn product(c: i64, z: i128) -> i128
 }
 
 /// `c` times the number, cut in two.
-fn halves_times(c: i64, z: i128) -> (i128, i128)
+pub(crate) fn halves_times(c: i64, z: i128) -> (i128, i128)
     requires coefficient { unsigned_abs c ≤ 2 ^ 32 }
     requires small { unsigned_abs z ≤ 2 ^ 96 }
     ensures value { c *ℤ z ≡ result.0 +ℤ result.1 *ℤ pos (2 ^ 64) }

@@ -1,8 +1,9 @@
 ghost use Rattle.std.specs.Prelude.{◌≡◌, ◌≤◌, ◌^◌, ℕ, ℤ, pos, negsuc, IsTrue, ◌↔◌, unsigned_abs, ◌+ℤ◌, ◌-ℤ◌, ◌*ℤ◌, nat_le, MatchOption, true, false, length};
 ghost use Rattle.cx_term.specs.Forms.{Linear, IsTerm, value, constant_of, symbol_of, fit, IsExactly, parts_within};
-ghost use Rattle.cx_term.specs.Sums.{plus_times, AreUpTo};
+ghost use Rattle.cx_term.specs.Sums.{plus_times, combined, plus_number, AreUpTo};
 ghost use Rattle.cx_term.specs.Replaced.{coefficient, without, put, with_value, put_all, values_of};
 
+use crate::combine::{combined_konst, combined_parts};
 use crate::parts::{coefficient_of, copy_parts, parts_without, same_parts, times_parts};
 use crate::replace::{put_konst, put_parts};
 use arrayvec::ArrayVec;
@@ -178,6 +179,48 @@ impl Term {
         ensures exact { IsExactly (λ v. k *ℤ value v self.now) result }
     {
         Term::zero().plus_times(k, self)
+    }
+
+    /// `k` times the form, `m` times the other and the number `c`, None exactly where no form within the limits has that value;
+    /// what stands between may pass them.
+    pub fn combined(&self, k: i64, m: i64, o: &Term, c: i128) -> Option<Term>
+        requires first { unsigned_abs k ≤ 2 ^ 32 }
+        requires second { unsigned_abs m ≤ 2 ^ 32 }
+        requires number { unsigned_abs c ≤ 2 ^ 32 }
+        ensures form { result ≡ fit (combined k self.now m o.now c) }
+        ensures exact { IsExactly (λ v. (c +ℤ k *ℤ value v self.now) +ℤ m *ℤ value v o.now) result }
+    {
+        self.combined_by(k, m, o, c)
+    }
+
+    fn combined_by(&self, k: i64, m: i64, o: &Term, c: i128) -> Option<Term>
+        requires first { unsigned_abs k ≤ 2 ^ 32 }
+        requires second { unsigned_abs m ≤ 2 ^ 32 }
+        requires number { unsigned_abs c ≤ 2 ^ 32 }
+        ensures { result ≡ fit (combined k self.now m o.now c) }
+    {
+        let konst = combined_konst(k, self.konst, m, o.konst, c)?;
+        let parts = combined_parts(k, self.parts.as_slice(), m, o.parts.as_slice())?;
+        Some(Term { konst, parts })
+    }
+
+    /// The form and the number `z`, None exactly where no form within the limits has that value.
+    pub fn plus_number(&self, z: i128) -> Option<Term>
+        ensures form { result ≡ fit (plus_number z self.now) }
+        ensures exact { IsExactly (λ v. value v self.now +ℤ z) result }
+    {
+        self.known();
+        self.plus_number_by(z)
+    }
+
+    fn plus_number_by(&self, z: i128) -> Option<Term>
+        ensures { result ≡ fit (plus_number z self.now) }
+    {
+        let konst = times_konst(self.konst, 1, z)?;
+        Some(Term {
+            konst,
+            parts: copy_parts(self.parts.as_slice()),
+        })
     }
 
     /// The form but for the part of the symbol.
