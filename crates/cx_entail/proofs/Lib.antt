@@ -1,6 +1,7 @@
 pub mod Euclid
 pub mod Congruences
 pub mod GcdLaws
+pub mod FactorLaws
 pub mod RangeLaws
 pub mod JoinLaws
 pub mod WidenLaws

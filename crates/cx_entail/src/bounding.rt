@@ -156,20 +156,42 @@ pub(crate) fn at_lows(ranges: &[Range], t: &Term) -> i128
 
 /// The coefficient's size times the symbol's stride.
 fn stride_part(ranges: &[Range], p: (u32, i64)) -> u128
-    ensures { result ≡ unsigned_abs p.1 * stride (range_at ranges.now p.0) }
+    requires { unsigned_abs p.1 ≤ 2 ^ 32 }
+    ensures value { result ≡ unsigned_abs p.1 * stride (range_at ranges.now p.0) }
+    ensures small { result ≤ 2 ^ 96 }
 {
     u128::from(p.1.unsigned_abs()) * u128::from(range_at(ranges, p.0).stride())
 }
 
-/// What all values of the form over the ranges are congruent by.
-pub(crate) fn modulus(ranges: &[Range], t: &Term) -> u128
-    ensures { result ≡ modulus ranges.now t.now }
+/// The greatest common divisor of two small numbers.
+fn common(m: u128, n: u128) -> u128
+    requires first { m ≤ 2 ^ 96 }
+    requires second { n ≤ 2 ^ 96 }
+    ensures value { result ≡ gcd m n }
+    ensures small { result ≤ 2 ^ 96 }
+{
+    gcd(m, n)
+}
+
+fn modulus_parts(ranges: &[Range], parts: &[(u32, i64)]) -> u128
+    requires { AreUpTo (2 ^ 32) parts.now }
+    ensures value { result ≡ modulus_with ranges.now 0 parts.now }
+    ensures small { result ≤ 2 ^ 96 }
 {
     let mut m = 0;
-    for p in t.parts() {
-        m = gcd(m, stride_part(ranges, *p));
+    for p in parts {
+        m = common(m, stride_part(ranges, *p));
     }
     m
+}
+
+/// What all values of the form over the ranges are congruent by.
+pub(crate) fn modulus(ranges: &[Range], t: &Term) -> u128
+    ensures value { result ≡ modulus ranges.now t.now }
+    ensures small { result ≤ 2 ^ 96 }
+{
+    t.known();
+    modulus_parts(ranges, t.parts())
 }
 
 /// The least and the greatest value of the form, where each symbol's value is in its range. A symbol past the end of `ranges`

@@ -4,6 +4,7 @@
 mod bounding;
 mod joining;
 mod meeting;
+mod multiples;
 mod range;
 mod showing;
 

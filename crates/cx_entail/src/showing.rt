@@ -1,76 +1,37 @@
-ghost use Rattle.std.specs.Prelude.{◌≡◌, ◌≢◌, ◌≤◌, ◌≤ℤ◌, ◌^◌, ℤ, pos, unsigned_abs, IsTrue, int_div, int_rem, IfSome, neg_ℤ};
-ghost use Rattle.std.specs.List.{list_any};
-ghost use Rattle.cx_term.specs.Forms.{value, fit};
-ghost use Rattle.cx_term.specs.Sums.{is_zero, plus_times};
-ghost use Rattle.cx_entail.specs.Shows.{times_of, reduced, passes, shown_none, shown_once, shown, Follows, same_form, is_listed_by, listed, leaves_rest, less_one, minus_less_one, minus, shown_nonzero};
+ghost use Rattle.std.specs.Prelude.{◌≡◌, ◌≢◌, ◌<◌, ◌≤◌, ◌≤ℤ◌, ◌^◌, ℤ, pos, ◌-ℤ◌, unsigned_abs, IsTrue};
+ghost use Rattle.std.specs.Int.{int_rem_euclid};
+ghost use Rattle.std.specs.List.{list_any, AllByRecursion};
+ghost use Rattle.cx_term.specs.Forms.{value};
+ghost use Rattle.cx_entail.specs.Shows.{passes, slack, rounded, less_multiple, passes_less, passes_known, shown_none, shown_once, shown_twice, shown, Follows, same_form, is_listed_by, listed, leaves_rest, less_one, minus_less_one, minus, shown_nonzero};
 
 use crate::bounding::{at_lows, least, modulus};
+use crate::multiples::{all_factors, less_multiple};
 use crate::range::Range;
 use cx_term::{Ineq, Term};
 
-fn quotient(a: i64, b: i64) -> i128
-    requires { b ≢ pos 0 }
-    ensures value { result ≡ int_div a b }
-    ensures small { unsigned_abs result ≤ 2 ^ 64 }
+/// From `c` up to the next number that is `m - 1` modulo `m`.
+fn to_top(m: u128, c: i128) -> i128
+    requires positive { 1 < m }
+    requires small { m ≤ 2 ^ 96 }
+    ensures { result ≡ (pos m -ℤ pos 1) -ℤ int_rem_euclid c (pos m) }
 {
-    i128::from(a) / i128::from(b)
+    let m = m as i128;
+    m - 1 - c.rem_euclid(m)
 }
 
-fn rest(a: i64, b: i64) -> i128
-    requires { b ≢ pos 0 }
-    ensures { result ≡ int_rem a b }
+/// What can be added to a number that is `c` modulo `m`, so that it is at least 0 only where it was.
+fn slack(m: u128, c: i128) -> i128
+    requires { m ≤ 2 ^ 96 }
+    ensures { result ≡ slack m c }
 {
-    i128::from(a) % i128::from(b)
+    if m > 1 { to_top(m, c) } else { 0 }
 }
 
-fn is_zero(z: i128) -> bool
-    ensures { result ≡ is_zero z }
+/// The form, rounded up by its remainder.
+fn rounded(ranges: &[Range], t: &Term) -> Option<Term>
+    ensures { result ≡ rounded ranges.now t.now }
 {
-    z == 0
-}
-
-/// The whole number of at least 1 that `a` is times `b`.
-fn times_of(a: i64, b: i64) -> Option<i128>
-    ensures value { result ≡ times_of a b }
-    ensures small { IfSome result (λ m. unsigned_abs m ≤ 2 ^ 64) }
-{
-    if b == 0 {
-        return None;
-    }
-    let m = quotient(a, b);
-    if is_zero(rest(a, b)) && m >= 1 {
-        Some(m)
-    } else {
-        None
-    }
-}
-
-fn negated(m: i128) -> i128
-    requires { unsigned_abs m ≤ 2 ^ 64 }
-    ensures { result ≡ neg_ℤ m }
-{
-    -m
-}
-
-/// The form less `m` times the other.
-fn less_times(m: i128, g: &Term, f: &Term) -> Option<Term>
-    requires { unsigned_abs m ≤ 2 ^ 64 }
-    ensures { result ≡ fit (plus_times (neg_ℤ m) g.now f.now) }
-{
-    f.plus_times(negated(m), g)
-}
-
-/// The form less the multiple of the inequality's form that takes the part's symbol away.
-fn reduced(f: &Term, c: &Ineq, p: (u32, i64)) -> Option<Term>
-    ensures { result ≡ reduced f.now c.now p }
-{
-    match c {
-        Ineq::Ge(g) => match times_of(p.1, g.coefficient(p.0)) {
-            Some(m) => less_times(m, g, f),
-            None => None,
-        },
-        Ineq::Ne(_) => None,
-    }
+    t.plus_number(slack(modulus(ranges, t), at_lows(ranges, t)))
 }
 
 fn shown_none(ranges: &[Range], t: &Term) -> bool
@@ -79,11 +40,13 @@ fn shown_none(ranges: &[Range], t: &Term) -> bool
     least(ranges, t) >= 0
 }
 
-fn once_by(ranges: &[Range], c: &Ineq, t: &Term) -> bool
-    ensures { result ≡ list_any (λ p. passes (shown_none ranges.now) (reduced t.now c.now p)) t.now.parts }
+fn once_among(ranges: &[Range], f: &Term, g: &Term, ks: &[(u64, u64)]) -> bool
+    requires first { AllByRecursion (λ k. k.0 ≤ 2 ^ 32) ks.now }
+    requires second { AllByRecursion (λ k. k.1 ≤ 2 ^ 32) ks.now }
+    ensures { result ≡ list_any (λ k. passes (shown_none ranges.now) (less_multiple f.now g.now k)) ks.now }
 {
-    for p in t.parts() {
-        if let Some(less) = reduced(t, c, *p) {
+    for k in ks {
+        if let Some(less) = less_multiple(f, g, *k) {
             if shown_none(ranges, &less) {
                 return true;
             }
@@ -92,25 +55,46 @@ fn once_by(ranges: &[Range], c: &Ineq, t: &Term) -> bool
     false
 }
 
-fn shown_once(known: &[Ineq], ranges: &[Range], t: &Term) -> bool
-    ensures { result ≡ shown_once known.now ranges.now t.now }
+fn once_by(ranges: &[Range], f: &Term, c: &Ineq) -> bool
+    ensures { result ≡ passes_less (shown_none ranges.now) f.now c.now }
 {
-    if shown_none(ranges, t) {
-        return true;
+    match c {
+        Ineq::Ge(g) => once_among(ranges, f, g, all_factors(f, g).as_slice()),
+        Ineq::Ne(_) => false,
     }
+}
+
+fn once_less(known: &[Ineq], ranges: &[Range], f: &Term) -> bool
+    ensures { result ≡ passes_known (shown_none ranges.now) known.now f.now }
+{
     for c in known {
-        if once_by(ranges, c, t) {
+        if once_by(ranges, f, c) {
             return true;
         }
     }
     false
 }
 
-fn twice_by(known: &[Ineq], ranges: &[Range], c: &Ineq, t: &Term) -> bool
-    ensures { result ≡ list_any (λ p. passes (shown_once known.now ranges.now) (reduced t.now c.now p)) t.now.parts }
+/// Whether the form is shown to be at least 0 in one step.
+fn shown_once(known: &[Ineq], ranges: &[Range], t: &Term) -> bool
+    ensures { result ≡ shown_once known.now ranges.now t.now }
 {
-    for p in t.parts() {
-        if let Some(less) = reduced(t, c, *p) {
+    if shown_none(ranges, t) {
+        return true;
+    }
+    match rounded(ranges, t) {
+        Some(f) => once_less(known, ranges, &f),
+        None => false,
+    }
+}
+
+fn twice_among(known: &[Ineq], ranges: &[Range], f: &Term, g: &Term, ks: &[(u64, u64)]) -> bool
+    requires first { AllByRecursion (λ k. k.0 ≤ 2 ^ 32) ks.now }
+    requires second { AllByRecursion (λ k. k.1 ≤ 2 ^ 32) ks.now }
+    ensures { result ≡ list_any (λ k. passes (shown_once known.now ranges.now) (less_multiple f.now g.now k)) ks.now }
+{
+    for k in ks {
+        if let Some(less) = less_multiple(f, g, *k) {
             if shown_once(known, ranges, &less) {
                 return true;
             }
@@ -119,34 +103,102 @@ fn twice_by(known: &[Ineq], ranges: &[Range], c: &Ineq, t: &Term) -> bool
     false
 }
 
-fn shown_twice(known: &[Ineq], ranges: &[Range], t: &Term) -> bool
-    ensures { result ≡ shown known.now ranges.now t.now }
+fn twice_by(known: &[Ineq], ranges: &[Range], f: &Term, c: &Ineq) -> bool
+    ensures { result ≡ passes_less (shown_once known.now ranges.now) f.now c.now }
 {
-    if shown_once(known, ranges, t) {
-        return true;
+    match c {
+        Ineq::Ge(g) => twice_among(known, ranges, f, g, all_factors(f, g).as_slice()),
+        Ineq::Ne(_) => false,
     }
+}
+
+fn twice_less(known: &[Ineq], ranges: &[Range], f: &Term) -> bool
+    ensures { result ≡ passes_known (shown_once known.now ranges.now) known.now f.now }
+{
     for c in known {
-        if twice_by(known, ranges, c, t) {
+        if twice_by(known, ranges, f, c) {
             return true;
         }
     }
     false
 }
 
-/// Whether the form is shown to be at least 0, in two steps: by the ranges, or less a multiple of a known form of which that is
-/// shown. A symbol past the end of `ranges` is 0.
+/// In two steps.
+fn shown_twice(known: &[Ineq], ranges: &[Range], t: &Term) -> bool
+    ensures { result ≡ shown_twice known.now ranges.now t.now }
+{
+    if shown_none(ranges, t) {
+        return true;
+    }
+    match rounded(ranges, t) {
+        Some(f) => twice_less(known, ranges, &f),
+        None => false,
+    }
+}
+
+fn thrice_among(known: &[Ineq], ranges: &[Range], f: &Term, g: &Term, ks: &[(u64, u64)]) -> bool
+    requires first { AllByRecursion (λ k. k.0 ≤ 2 ^ 32) ks.now }
+    requires second { AllByRecursion (λ k. k.1 ≤ 2 ^ 32) ks.now }
+    ensures { result ≡ list_any (λ k. passes (shown_twice known.now ranges.now) (less_multiple f.now g.now k)) ks.now }
+{
+    for k in ks {
+        if let Some(less) = less_multiple(f, g, *k) {
+            if shown_twice(known, ranges, &less) {
+                return true;
+            }
+        }
+    }
+    false
+}
+
+fn thrice_by(known: &[Ineq], ranges: &[Range], f: &Term, c: &Ineq) -> bool
+    ensures { result ≡ passes_less (shown_twice known.now ranges.now) f.now c.now }
+{
+    match c {
+        Ineq::Ge(g) => thrice_among(known, ranges, f, g, all_factors(f, g).as_slice()),
+        Ineq::Ne(_) => false,
+    }
+}
+
+fn thrice_less(known: &[Ineq], ranges: &[Range], f: &Term) -> bool
+    ensures { result ≡ passes_known (shown_twice known.now ranges.now) known.now f.now }
+{
+    for c in known {
+        if thrice_by(known, ranges, f, c) {
+            return true;
+        }
+    }
+    false
+}
+
+/// In three steps.
+fn shown_thrice(known: &[Ineq], ranges: &[Range], t: &Term) -> bool
+    ensures { result ≡ shown known.now ranges.now t.now }
+{
+    if shown_none(ranges, t) {
+        return true;
+    }
+    match rounded(ranges, t) {
+        Some(f) => thrice_less(known, ranges, &f),
+        None => false,
+    }
+}
+
+/// Whether the form is shown to be at least 0, in three steps. It is shown by the ranges; or, rounded up by its remainder, by a
+/// known form: the least multiples of the two that agree in a symbol are taken, and their difference is shown. A symbol past the
+/// end of `ranges` is 0.
 pub fn shows(known: &[Ineq], ranges: &[Range], t: &Term) -> bool
     ensures exact { result ≡ shown known.now ranges.now t.now }
     ensures sound { IsTrue result → Follows known.now ranges.now (λ v. pos 0 ≤ℤ value v t.now) }
 {
-    shown_twice(known, ranges, t)
+    shown_thrice(known, ranges, t)
 }
 
 fn passes(known: &[Ineq], ranges: &[Range], t: Option<Term>) -> bool
     ensures { result ≡ passes (shown known.now ranges.now) t }
 {
     match t {
-        Some(t) => shown_twice(known, ranges, &t),
+        Some(t) => shown_thrice(known, ranges, &t),
         None => false,
     }
 }

@@ -56,6 +56,82 @@ fn an_index_below_a_length(rt: HostRuntime) {
     assert!(rt; !shows_nonzero([fits].as_slice(), ranges.as_slice(), &form(0, 1, 0)));
 }
 
+/// Symbol `b` less symbol `a`.
+fn over(a: u32, b: u32) -> Term {
+    match Term::symbol(b).sub(&Term::symbol(a)) {
+        Some(t) => t,
+        None => Term::zero(),
+    }
+}
+
+#[test]
+fn least_multiples_that_agree(rt: HostRuntime) {
+    let ranges = [all(0, TOP), all(0, TOP)];
+    // of 2n > 3i, twice 3n - 4i is three times 2n - 3i - 1 and i + 3
+    let known = [Ineq::Ge(form(-3, 2, -1))];
+    assert!(rt; shows(known.as_slice(), ranges.as_slice(), &form(-4, 3, 0)));
+    assert!(rt; shows(known.as_slice(), ranges.as_slice(), &form(-4, 3, -2)));
+    assert!(rt; !shows(known.as_slice(), ranges.as_slice(), &form(-4, 3, -3)));
+    assert!(rt; !shows(known.as_slice(), ranges.as_slice(), &form(-5, 3, 0)));
+    // n is at least 1 where 2n is
+    let half = [Ineq::Ge(form(0, 2, -1))];
+    assert!(rt; shows(half.as_slice(), ranges.as_slice(), &form(0, 1, -1)));
+    assert!(rt; !shows(half.as_slice(), ranges.as_slice(), &form(0, 1, -2)));
+}
+
+#[test]
+fn rounded_by_the_remainder(rt: HostRuntime) {
+    let evens = Range {
+        lo: 0,
+        hi: 10,
+        m: 2,
+        r: 0,
+    };
+    // an even number that is at least 1 is at least 2
+    let known = [Ineq::Ge(form(1, 0, -1))];
+    assert!(rt; shows(known.as_slice(), [evens].as_slice(), &form(1, 0, -2)));
+    assert!(rt; !shows(known.as_slice(), [evens].as_slice(), &form(1, 0, -3)));
+    assert!(rt; !shows(known.as_slice(), [all(0, 10)].as_slice(), &form(1, 0, -2)));
+}
+
+#[test]
+fn three_steps(rt: HostRuntime) {
+    let whole = all(0, TOP);
+    let ranges = [whole, whole, whole, whole, whole];
+    let known = [
+        Ineq::Ge(over(0, 1)),
+        Ineq::Ge(over(1, 2)),
+        Ineq::Ge(over(2, 3)),
+        Ineq::Ge(over(3, 4)),
+    ];
+    assert!(rt; shows(known.as_slice(), ranges.as_slice(), &over(0, 3)));
+    assert!(rt; shows(known.as_slice(), ranges.as_slice(), &over(1, 4)));
+    assert!(rt; !shows(known.as_slice(), ranges.as_slice(), &over(0, 4)));
+    assert!(rt; !shows(known.as_slice(), ranges.as_slice(), &over(3, 0)));
+    // a number above a number is not that number
+    let below = match over(0, 1).plus_number(-1) {
+        Some(t) => [Ineq::Ge(t), known[1].copy(), known[2].copy()],
+        None => return,
+    };
+    assert!(rt; shows_nonzero(below.as_slice(), ranges.as_slice(), &over(3, 0)));
+    assert!(rt; !shows_nonzero(known.as_slice(), ranges.as_slice(), &over(3, 0)));
+    assert!(rt; below[1].same(&known[1]));
+    assert!(rt; !below[0].same(&known[0]));
+    assert!(rt; !below[1].same(&Ineq::Ne(over(1, 2))));
+    match over(0, 1).combined(2, -3, &over(0, 2), 5) {
+        Some(t) => assert_eq!(rt;
+            (
+                t.konst(),
+                t.coefficient(0),
+                t.coefficient(1),
+                t.coefficient(2)
+            ),
+            (5, 1, 2, -3)
+        ),
+        None => assert!(rt; false),
+    }
+}
+
 #[test]
 fn not_zero(rt: HostRuntime) {
     let ranges = [all(-5, 5), all(-5, 5)];

@@ -10,4 +10,4 @@ pub returns-clause-sound : goal.returns-clause-sound
 returns-clause-sound c =
     let f : SFits w128 c.at_lows.result = search rules in
     let e : to_z w128 (of_z w128 c.at_lows.result) ≡ at_lows c.args.ranges.now c.args.t.now = simp to_z-of_z c.at_lows.ensures in
-    rw (e, c.modulus.ensures) (leaves_remainder c.args.ranges.now c.args.t.now)
+    rw (e, c.modulus.ensures.value) (leaves_remainder c.args.ranges.now c.args.t.now)
