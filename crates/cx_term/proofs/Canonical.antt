@@ -72,7 +72,7 @@ value-head s p ps e h =
 not_zero : (z : ℤ) → 0 < unsigned_abs z → z ≡ pos 0 → ⊥
 not_zero z h e = omega (arith, ints)
 
-order3 : (a b : ℕ) → (a < b) ⊎ ((a ≡ b) ⊎ (b < a))
+pub order3 : (a b : ℕ) → (a < b) ⊎ ((a ≡ b) ⊎ (b < a))
 order3 a b = grind arith
 
 tails_by : (v : ℕ → ℤ) (p q : ℕ × ℤ) (ps qs : List (ℕ × ℤ)) → p.0 ≡ q.0 → p.1 ≡ q.1 → value_parts v (p ∷ ps) ≡ value_parts v (q ∷ qs) → value_parts v ps ≡ value_parts v qs

@@ -6,3 +6,6 @@ pub mod Limits
 pub mod Exact
 pub mod AllReplaced
 pub mod Combined
+pub mod Listed
+pub mod Gathered
+pub mod SumParts

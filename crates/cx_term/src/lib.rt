@@ -2,6 +2,7 @@
 #![tactic(auto)]
 
 mod combine;
+mod listing;
 mod parts;
 mod replace;
 mod term;

@@ -1,9 +1,11 @@
 ghost use Rattle.std.specs.Prelude.{◌≡◌, ◌≤◌, ◌^◌, ℕ, ℤ, pos, negsuc, IsTrue, ◌↔◌, unsigned_abs, ◌+ℤ◌, ◌-ℤ◌, ◌*ℤ◌, nat_le, MatchOption, true, false, length};
 ghost use Rattle.cx_term.specs.Forms.{Linear, IsTerm, value, constant_of, symbol_of, fit, IsExactly, parts_within};
 ghost use Rattle.cx_term.specs.Sums.{plus_times, combined, plus_number, AreUpTo};
+ghost use Rattle.cx_term.specs.Listed.{value_listed};
 ghost use Rattle.cx_term.specs.Replaced.{coefficient, without, put, with_value, put_all, values_of};
 
 use crate::combine::{combined_konst, combined_parts};
+use crate::listing::{sum_parts, total};
 use crate::parts::{coefficient_of, copy_parts, parts_without, same_parts, times_parts};
 use crate::replace::{put_konst, put_parts};
 use arrayvec::ArrayVec;
@@ -221,6 +223,16 @@ impl Term {
             konst,
             parts: copy_parts(self.parts.as_slice()),
         })
+    }
+
+    /// The sum of the parts, each a number or a number times a symbol, in any order and with repeats. None exactly where no form
+    /// within the limits has that value; what stands between may pass them.
+    pub fn sum_of(parts: &[(Option<u32>, i128)]) -> Option<Term>
+        ensures exact { IsExactly (λ v. value_listed v parts.now) result }
+    {
+        let konst = total(parts, None)?;
+        let parts = sum_parts(parts)?;
+        Some(Term { konst, parts })
     }
 
     /// The form but for the part of the symbol.

@@ -112,3 +112,59 @@ fn replaced(rt: HostRuntime) {
         None => assert!(rt; false),
     }
 }
+
+#[test]
+fn sums_of_lists(rt: HostRuntime) {
+    // 2^64
+    let large = 18446744073709551616;
+    let mixed = [
+        (Some(3), 2),
+        (None, 5),
+        (Some(1), -4),
+        (Some(3), -2),
+        (None, -7),
+        (Some(1), 1),
+    ];
+    match Term::sum_of(mixed.as_slice()) {
+        Some(t) => {
+            assert_eq!(rt;
+                (t.konst(), t.coefficient(1), t.coefficient(3)),
+                (-2, -3, 0)
+            );
+            assert_eq!(rt; t.parts().len(), 1);
+        }
+        None => assert!(rt; false),
+    }
+    // what stands between passes the limits
+    let back = [
+        (Some(0), large),
+        (None, i128::MAX),
+        (None, i128::MAX),
+        (Some(0), 1 - large),
+        (None, -i128::MAX),
+        (None, -i128::MAX),
+    ];
+    match Term::sum_of(back.as_slice()) {
+        Some(t) => assert!(rt; t.same(&Term::symbol(0))),
+        None => assert!(rt; false),
+    }
+    let past = [(Some(0), 4294967297)];
+    assert!(rt; Term::sum_of(past.as_slice()).is_none());
+    let five = [
+        (Some(9), 1),
+        (Some(8), 1),
+        (Some(7), 1),
+        (Some(6), 1),
+        (Some(5), 1),
+    ];
+    assert!(rt; Term::sum_of(five.as_slice()).is_none());
+    let four = [
+        (Some(9), 1),
+        (Some(8), 1),
+        (Some(7), 1),
+        (Some(6), 1),
+        (Some(9), -1),
+        (Some(5), 1),
+    ];
+    assert!(rt; Term::sum_of(four.as_slice()).is_some());
+}
