@@ -31,23 +31,23 @@ c_keywords =
     (codes "_Complex", k.Reserved) ∷ (codes "_Generic", k.Reserved) ∷ (codes "_Imaginary", k.Reserved) ∷
     (codes "_Static_assert", k.Reserved) ∷ (codes "_Thread_local", k.Reserved) ∷ []
 
--- the words that GNU C adds
+-- the words that GNU C adds, and its spellings of words of C
 unfoldable pub gnu_keywords : List (List ℕ × Keyword)
 gnu_keywords =
-    (codes "__extension__", k.Skipped) ∷ (codes "__restrict", k.Skipped) ∷ (codes "__const", k.Skipped) ∷
-    (codes "__inline", k.Skipped) ∷ (codes "__inline__", k.Skipped) ∷ (codes "__volatile__", k.Skipped) ∷
+    (codes "__extension__", k.Skipped) ∷ (codes "__restrict", k.Skipped) ∷ (codes "__restrict__", k.Skipped) ∷
+    (codes "__const", k.Skipped) ∷ (codes "__const__", k.Skipped) ∷ (codes "__inline", k.Skipped) ∷
+    (codes "__inline__", k.Skipped) ∷ (codes "__volatile", k.Skipped) ∷ (codes "__volatile__", k.Skipped) ∷
+    (codes "__signed", k.Signed) ∷ (codes "__signed__", k.Signed) ∷
     (codes "__attribute__", k.Attribute) ∷ (codes "__asm__", k.Asm) ∷ (codes "asm", k.Asm) ∷
     (codes "typeof", k.Reserved) ∷ (codes "__RTL", k.Reserved) ∷ (codes "__seg_fs", k.Reserved) ∷
     (codes "__seg_gs", k.Reserved) ∷ (codes "__alignof", k.Reserved) ∷ (codes "__alignof__", k.Reserved) ∷
     (codes "__asm", k.Reserved) ∷ (codes "__attribute", k.Reserved) ∷ (codes "__auto_type", k.Reserved) ∷
     (codes "__auto_type__", k.Reserved) ∷ (codes "__complex", k.Reserved) ∷
-    (codes "__complex__", k.Reserved) ∷ (codes "__const__", k.Reserved) ∷ (codes "__extension", k.Reserved) ∷
+    (codes "__complex__", k.Reserved) ∷ (codes "__extension", k.Reserved) ∷
     (codes "__imag", k.Reserved) ∷ (codes "__imag__", k.Reserved) ∷ (codes "__int128", k.Reserved) ∷
     (codes "__int128__", k.Reserved) ∷ (codes "__label", k.Reserved) ∷ (codes "__label__", k.Reserved) ∷
-    (codes "__real", k.Reserved) ∷ (codes "__real__", k.Reserved) ∷ (codes "__restrict__", k.Reserved) ∷
-    (codes "__signed", k.Reserved) ∷ (codes "__signed__", k.Reserved) ∷ (codes "__thread", k.Reserved) ∷
-    (codes "__thread__", k.Reserved) ∷ (codes "__typeof", k.Reserved) ∷ (codes "__typeof__", k.Reserved) ∷
-    (codes "__volatile", k.Reserved) ∷ []
+    (codes "__real", k.Reserved) ∷ (codes "__real__", k.Reserved) ∷ (codes "__thread", k.Reserved) ∷
+    (codes "__thread__", k.Reserved) ∷ (codes "__typeof", k.Reserved) ∷ (codes "__typeof__", k.Reserved) ∷ []
 
 -- the keyword that the text is, if it is one
 unfoldable pub keyword_of : List ℕ → Option Keyword

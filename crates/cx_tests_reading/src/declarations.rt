@@ -34,7 +34,10 @@ long long int unsigned x; => x: u64
 long int unsigned long x; => x: u64
 long int long unsigned x; => x: u64
 int unsigned long long x; => x: u64
-int long long unsigned x; => x: u64";
+int long long unsigned x; => x: u64
+__signed char x; => x: i8
+long __signed__ int x; => x: i64
+signed __signed__ x; => passed";
 
 /// Words beside a type, and declarators.
 const DECLARATORS: &str = "const int volatile x; => x: i32
@@ -46,7 +49,9 @@ char *a[2]; => a: [2]*i8
 typedef int row[4]; row *p; => types; p: *[4]i32
 void *p; => p: *void
 struct s { int a; }; typedef struct s row[4]; row *p, *q[2]; => types; types; p: *[4]#0, q: [2]*[4]#0
-struct s { int a; }; void f(struct s a[][3]); => types; f(*[3]#0) void";
+struct s { int a; }; void f(struct s a[][3]); => types; f(*[3]#0) void
+__const__ char *__restrict__ x, *__volatile *__const y; => x: *i8, y: **i8
+typedef __signed__ int __s32; struct s { __s32 a; __signed long b; }; char x[sizeof(struct s)]; => types; types; x: [16]i8";
 
 /// Structs and unions.
 const STRUCTS: &str = "struct s { int a; long *b, c[2]; }; struct s x; => types; x: #0
@@ -141,6 +146,8 @@ int (*f)(void); => passed
 int printf(const char *, ...); => passed
 float x; => passed
 _Bool b; => passed
+int *__signed; => passed
+int x, __restrict__; => passed
 __int128 x; => passed
 struct s { int a; }; struct s { int a; }; => types; passed
 struct s; union s; => types; passed

@@ -69,7 +69,9 @@ const FILES: &str = "; => passed
 ;;int x;; => passed; passed; x: i32; passed
 int /* ; */ x /* { */; => x: i32
 int f(void) { /* } */ ; } // int y; => f() i32 {;}
-typedef int t; t x; int f(t t) { return 0; } => types; x: i32; passed";
+typedef int t; t x; int f(t t) { return 0; } => types; x: i32; passed
+typedef __signed__ char s8; int f(__const__ s8 *__restrict__ p) { __volatile __signed x = *p; return x; } => \
+types; f(*i8) i32 {x: i32 = (*p);return x;}";
 
 /// A body ends an item, and another list in braces does not.
 const ENDS: &str = "int f(void) { ; } int x; => f() i32 {;}; x: i32
