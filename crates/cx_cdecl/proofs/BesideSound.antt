@@ -6,23 +6,23 @@ use Rattle.cx_cword.specs.declared.lexeme.Lexeme.{Lexeme}
 use Rattle.cx_cword.specs.declared.lexeme.LexemeKind.TheVariants as l
 use Rattle.cx_cword.specs.Reading.{IsWord, ◌>>=◌}
 use Rattle.cx_cexpr.proofs.Steps.{bind_some, some_is}
-use Rattle.cx_cdecl.specs.declared.kinds.Mark.{Mark}
-use Rattle.cx_cdecl.specs.declared.kinds.Mark.TheVariants as m
+use Rattle.cx_cword.specs.declared.mark.Mark.{Mark}
+use Rattle.cx_cword.specs.declared.mark.Mark.TheVariants as m
 use Rattle.cx_cdecl.specs.declared.kinds.Bracket.{Bracket}
 use Rattle.cx_cdecl.specs.declared.kinds.Bracket.TheVariants as b
 use Rattle.cx_cdecl.specs.Declarations.{Beside, nothing_said, also_said, both_said, partner, AreBalanced, none_balanced, plain_balanced, group_balanced, IsAttributes, attributes, AreBeside, none_beside, word_beside, attributes_beside, AreAfter, none_after, attributes_after, asm_after}
 use Rattle.cx_cdecl.specs.Kinds.{also_says, is_attribute, is_after, bracket_of}
 use Rattle.cx_cdecl.specs.Reading.{Got, wanted, if_true, balanced_by, balanced_at, attributes_at, beside_attributes, beside_by, beside_at, after_by, after_at}
-use Rattle.cx_cdecl.proofs.Shapes.{punctuator_of, says_is, attribute_is, after_is, bracket_open, bracket_plain}
+use Rattle.cx_cdecl.proofs.Shapes.{says_is, attribute_is, after_is, Closing, bracket_open, bracket_plain}
 use Rattle.cx_cdecl.proofs.Steps.{if_some, Marked, wanted_some, Front, both_parts}
 
 -- ---- attributes
 
-grouped : (o : Lexeme) (rest inside after g : List Lexeme) (close : Mark) → partner o.kind ≡ Some (punctuator_of close) → Front AreBalanced rest inside → Marked close inside after → Front AreBalanced after g → Front AreBalanced (o ∷ rest) g
+grouped : (o : Lexeme) (rest inside after g : List Lexeme) (close : Mark) → Closing o.kind close → Front AreBalanced rest inside → Marked close inside after → Front AreBalanced after g → Front AreBalanced (o ∷ rest) g
 grouped o rest inside after g close is f m h = record {
   front = o ∷ f.front ++ m.at ∷ h.front;
   parts = ap (λ (v : List Lexeme). o ∷ v) (f.parts ∙ ap (λ (v : List Lexeme). f.front ++ v) (m.parts ∙ ap (λ (v : List Lexeme). m.at ∷ v) h.parts) ∙ sym (append_assoc f.front (m.at ∷ h.front) g));
-  so = group_balanced o m.at (punctuator_of close) is f.so m.is h.so;
+  so = group_balanced o m.at is.close is.is f.so (m.is ∙ is.same) h.so;
 }
 
 balanced_step : (again : List Lexeme → Option (List Lexeme)) → ((os g : List Lexeme) → again os ≡ Some g → Front AreBalanced os g)

@@ -9,15 +9,15 @@ use Rattle.cx_cword.specs.declared.lexeme.LexemeKind.{LexemeKind}
 use Rattle.cx_cword.specs.declared.lexeme.LexemeKind.TheVariants as l
 use Rattle.cx_cword.specs.Reading.{Is, IsWord, ◌>>=◌}
 use Rattle.cx_cexpr.proofs.Steps.{some_is}
-use Rattle.cx_cdecl.specs.declared.kinds.Mark.{Mark}
-use Rattle.cx_cdecl.specs.declared.kinds.Mark.TheVariants as m
+use Rattle.cx_cword.specs.declared.mark.Mark.{Mark}
+use Rattle.cx_cword.specs.declared.mark.Mark.TheVariants as m
 use Rattle.cx_cdecl.specs.declared.kinds.Bracket.TheVariants as b
 use Rattle.cx_cdecl.specs.Declarations.{Beside, also_said, both_said, partner, is_plain, AreBalanced, none_balanced, plain_balanced, group_balanced, IsAttributes, attributes, AreBeside, none_beside, word_beside, attributes_beside, AreAfter, none_after, attributes_after, asm_after}
-use Rattle.cx_cdecl.specs.Kinds.{word_said, also_says, is_attribute, is_after, bracket_by, bracket_of}
+use Rattle.cx_cdecl.specs.Kinds.{also_says, is_attribute, is_after, bracket_by, bracket_of}
 use Rattle.cx_cdecl.specs.Reading.{Got, wanted, if_true, balanced_by, balanced_at, attributes_at, beside_attributes, beside_by, beside_at, after_by, after_at}
-use Rattle.cx_cdecl.proofs.Shapes.{punctuator_of, said_same}
 use Rattle.cx_cdecl.proofs.BesideSound.{word_first, attributes_first, nothing_more, kept_bare}
 use Rattle.cx_cdecl.proofs.Follows.{is_beside, is_beside_word, no_beside, no_keyword, not_true, wanted_goes, bind_goes, keyword_after}
+use Rattle.cx_cword.proofs.Marks.{kind_of}
 
 -- ---- attributes
 
@@ -44,7 +44,7 @@ plain_bracket _ e = refl
 record Opening (kind : LexemeKind) (close : Punctuator) : Type 0 where
   mark : Mark
   opens : bracket_of kind ≡ b.Open mark
-  same : punctuator_of mark ≡ close
+  same : kind_of mark ≡ l.Punctuator close
   stops : bracket_by close ≡ b.Stop
 
 opening_mark : (q close : Punctuator) → partner (l.Punctuator q) ≡ Some close → Opening (l.Punctuator q) close
@@ -67,7 +67,7 @@ group_goes n o w a rest close e is inside =
     let q = opening o.kind close e in
     ap (balanced_by (balanced_at n) o (a ++ w ∷ rest)) q.opens
     ∙ bind_goes (balanced_at n (a ++ w ∷ rest)) (λ v. wanted q.mark v (balanced_at n)) (w ∷ rest) (inside (ap bracket_of is ∙ q.stops))
-    ∙ wanted_goes q.mark w rest (balanced_at n) (is ∙ ap l.Punctuator (sym q.same))
+    ∙ wanted_goes q.mark w rest (balanced_at n) (is ∙ sym q.same)
 
 balanced_end : (n : ℕ) (rest : List Lexeme) → Stopping rest → balanced_at (suc n) rest ≡ Some rest
 unfolding balanced_at
@@ -121,7 +121,7 @@ pub record Besides (turns : ℕ) (open_ : Bool) (n : ℕ) (s said : Beside) (fro
   pub goes : beside_at turns open_ n s (front ++ rest) ≡ beside_at turns open_ left (both_said s said) rest
 
 says_goes : (o : Lexeme) (w : Keyword) (s t : Beside) → IsWord w o → also_said w s ≡ Some t → also_says o.kind s ≡ Some t
-says_goes o w s t is e = ap (λ (x : LexemeKind). also_says x s) is ∙ said_same w s ∙ e
+says_goes o w s t is e = ap (λ (x : LexemeKind). also_says x s) is ∙ e
 
 -- a word before the others says the same as after them
 record Moved (w : Keyword) (s r q : Beside) : Type 0 where
@@ -174,7 +174,7 @@ beside_goes (attributes_beside {a = a} {os = os} {s = r} i h) turns true (suc n)
 
 -- ---- where nothing more stands beside a type
 
-word_says_none : (w : Keyword) (s : Beside) → is_beside_word w ≡ false → word_said w s ≡ None
+word_says_none : (w : Keyword) (s : Beside) → is_beside_word w ≡ false → also_said w s ≡ None
 word_says_none k.Typedef s e = absurd cc
 word_says_none k.Extern s e = absurd cc
 word_says_none k.Static s e = absurd cc

@@ -15,7 +15,7 @@ use Rattle.cx_cconst.specs.Constants.{is_constant}
 use Rattle.cx_cexpr.specs.Reading.{cond_at}
 use Rattle.cx_cexpr.proofs.Steps.{bind_some, some_is}
 use Rattle.cx_cexpr.proofs.Sound.{cond_sound}
-use Rattle.cx_cdecl.specs.declared.kinds.Mark.TheVariants as m
+use Rattle.cx_cword.specs.declared.mark.Mark.TheVariants as m
 use Rattle.cx_cdecl.specs.Declarations.{IsObject, IsFunction, function_of, IsInitDeclarator, type_declared, object_declared, object_initialised, function_declared, AreInitDeclarators, first_declarator, also_declarator, is_function, IsDeclaration, declares_types, declares}
 use Rattle.cx_cdecl.specs.Reading as reading
 use Rattle.cx_cdecl.specs.Reading.{Got, After, Named, Specs, wanted, choose, if_true, name_at, sizes_after, object_at, param_list_at, after_at, Declared, declares_object, function_after, declarator_at, initialiser_at, declared_by, init_declarator_at, init_declarators_at, some_declarators, declarators_after, declaration_at, specs_at, plain_specs_at, or_else, front_specs_at, object_front, front_declarator_at}

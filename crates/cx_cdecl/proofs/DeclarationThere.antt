@@ -18,10 +18,9 @@ use Rattle.cx_cexpr.specs.Reading as expr
 use Rattle.cx_cexpr.specs.Reading.{Few, cond_at}
 use Rattle.cx_cexpr.proofs.TypeAgain as again
 use Rattle.cx_cexpr.proofs.Again.{cond_there}
-use Rattle.cx_cdecl.specs.declared.kinds.Mark.{Mark}
-use Rattle.cx_cdecl.specs.declared.kinds.Mark.TheVariants as m
+use Rattle.cx_cword.specs.declared.mark.Mark.{Mark}
+use Rattle.cx_cword.specs.declared.mark.Mark.TheVariants as m
 use Rattle.cx_cdecl.specs.Declarations.{Beside, ArePointers, no_star, also_star, IsObject, object_of, IsParamList, IsFunction, function_of, IsInitDeclarator, type_declared, object_declared, object_initialised, function_declared, AreInitDeclarators, first_declarator, also_declarator, is_function, IsDeclaration, declares_types, declares}
-use Rattle.cx_cdecl.specs.Kinds.{fits}
 use Rattle.cx_cdecl.specs.Reading.{Got, After, Named, wanted, choose, if_true, after_at, name_at, sizes_after, param_list_at, Declared, declares_object, function_after, declarator_at, initialiser_at, declared_by, init_declarator_at, init_declarators_at, some_declarators, declarators_after, specs_at, declaration_at}
 use Rattle.cx_cdecl.proofs.BesideThere.{after_goes, after_ends}
 use Rattle.cx_cdecl.proofs.DeclaratorThere.{named_of, name_there, object_go}
@@ -30,6 +29,7 @@ use Rattle.cx_cdecl.proofs.Grows.{Fits, fits_few, fits_after, fits_less, Grows, 
 use Rattle.cx_cdecl.proofs.Growing.{specs_grow}
 use Rattle.cx_cdecl.proofs.MembersThere.{pointers_begin, name_begins, specs_tree, specs_there}
 use Rattle.cx_cdecl.proofs.ParamsThere.{param_list_there, param_list_grows}
+use Rattle.cx_cword.specs.Marks.{fits}
 
 -- ---- declarators
 

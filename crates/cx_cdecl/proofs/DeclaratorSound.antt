@@ -15,7 +15,7 @@ use Rattle.cx_cexpr.specs.Reading.{skip_at, cond_at, named}
 use Rattle.cx_cexpr.proofs.Steps.{bind_some, some_is, named_some}
 use Rattle.cx_cexpr.proofs.TypeSound.{skip_sound}
 use Rattle.cx_cexpr.proofs.Sound.{cond_sound}
-use Rattle.cx_cdecl.specs.declared.kinds.Mark.TheVariants as m
+use Rattle.cx_cword.specs.declared.mark.Mark.TheVariants as m
 use Rattle.cx_cdecl.specs.Declarations.{ArePointers, no_star, also_star, AreSizes, no_size, also_size, IsObject, object_of}
 use Rattle.cx_cdecl.specs.Reading.{Got, wanted, choose, pointers_at, in_size, size_by, size_at, sizes_by, sizes_at, sized_at, arrays, Named, name_at, sizes_after, object_at}
 use Rattle.cx_cdecl.proofs.Steps.{if_some, wanted_some, choose_some, both_parts}

@@ -18,12 +18,12 @@ use Rattle.cx_cexpr.proofs.TypeAgain.{NoSkip, skip_there}
 use Rattle.cx_cexpr.proofs.TypeAgain as again
 use Rattle.cx_cexpr.proofs.Ends.{mark_ends}
 use Rattle.cx_cexpr.proofs.Again.{cond_there}
-use Rattle.cx_cdecl.specs.declared.kinds.Mark.TheVariants as m
+use Rattle.cx_cword.specs.declared.mark.Mark.TheVariants as m
 use Rattle.cx_cdecl.specs.Declarations.{ArePointers, no_star, also_star, AreSizes, no_size, also_size, IsObject, object_of}
-use Rattle.cx_cdecl.specs.Kinds.{fits}
 use Rattle.cx_cdecl.specs.Reading.{Got, wanted, choose, pointers_at, in_size, size_by, size_at, sizes_by, sizes_at, sized_at, arrays, Named, name_at, array_of, sizes_after, object_at}
 use Rattle.cx_cdecl.proofs.DeclaratorSound.{complete_arrays, path_arrays, sizes_sound}
 use Rattle.cx_cdecl.proofs.Follows.{no_keyword, no_mark, keyword_skip, name_plain, name_no_mark, wanted_goes, wanted_other, choose_goes, choose_other, named_goes, if_goes, bind_goes, Room}
+use Rattle.cx_cword.specs.Marks.{fits}
 
 -- ---- stars
 

@@ -13,7 +13,7 @@ use Rattle.cx_cconst.specs.Constants.{constant_in}
 use Rattle.cx_cexpr.specs.Reading.{cond_at}
 use Rattle.cx_cexpr.proofs.Steps.{bind_some, some_is, named_some}
 use Rattle.cx_cexpr.proofs.Sound.{cond_sound}
-use Rattle.cx_cdecl.specs.declared.kinds.Mark.TheVariants as m
+use Rattle.cx_cword.specs.declared.mark.Mark.TheVariants as m
 use Rattle.cx_cdecl.specs.Declarations.{IsEnumerator, enumerator_next, enumerator_equal, AreEnumerators, first_enumerator, also_enumerator, IsEnumList, enum_list, enum_list_comma}
 use Rattle.cx_cdecl.specs.Reading.{Got, After, wanted, choose, in_int, value_by, value_at, enumerator_by, enumerator_at, enumerators_by, enumerators_at, enumerators_in}
 use Rattle.cx_cdecl.proofs.Steps.{if_some, Marked, wanted_some, choose_some}

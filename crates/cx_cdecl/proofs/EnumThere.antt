@@ -18,13 +18,13 @@ use Rattle.cx_cexpr.specs.Reading as expr
 use Rattle.cx_cexpr.specs.Reading.{Few, cond_at, named}
 use Rattle.cx_cexpr.proofs.TypeAgain as again
 use Rattle.cx_cexpr.proofs.Again.{cond_there}
-use Rattle.cx_cdecl.specs.declared.kinds.Mark.{Mark}
-use Rattle.cx_cdecl.specs.declared.kinds.Mark.TheVariants as m
+use Rattle.cx_cword.specs.declared.mark.Mark.{Mark}
+use Rattle.cx_cword.specs.declared.mark.Mark.TheVariants as m
 use Rattle.cx_cdecl.specs.Declarations.{IsEnumerator, enumerator_next, enumerator_equal, AreEnumerators, first_enumerator, also_enumerator, IsEnumList, enum_list, enum_list_comma}
-use Rattle.cx_cdecl.specs.Kinds.{fits}
 use Rattle.cx_cdecl.specs.Reading.{Got, After, wanted, choose, in_int, value_by, value_at, enumerator_by, enumerator_at, no_more, enumerators_by, enumerators_at, enumerators_in}
 use Rattle.cx_cdecl.proofs.Follows.{no_mark, ends_item, is_ending, item_closes, item_assign, closes_ends, name_no_mark, both_so, wanted_goes, choose_goes, choose_other, named_goes, if_goes, bind_goes, Room}
 use Rattle.cx_cdecl.proofs.Grows.{Grows, grows_constant, grows_then, new_so}
+use Rattle.cx_cword.specs.Marks.{fits}
 
 int_so : (v : ℤ) → InRange 4 true v → in_int v ≡ true
 unfolding half_of

@@ -14,11 +14,12 @@ use Rattle.cx_cexpr.specs.Reading.{named, named_by}
 use Rattle.cx_cexpr.proofs.Ends.{Ends, binds}
 use Rattle.cx_cexpr.proofs.TypeAgain.{NoSkip}
 use Rattle.cx_cexpr.proofs.Counted.{NoWord}
-use Rattle.cx_cdecl.specs.declared.kinds.Mark.{Mark}
-use Rattle.cx_cdecl.specs.declared.kinds.Mark.TheVariants as m
-use Rattle.cx_cdecl.specs.Kinds.{fits, is_after}
+use Rattle.cx_cword.specs.declared.mark.Mark.{Mark}
+use Rattle.cx_cword.specs.declared.mark.Mark.TheVariants as m
+use Rattle.cx_cdecl.specs.Kinds.{is_after}
 use Rattle.cx_cdecl.specs.Reading.{wanted, choose, if_true}
-use Rattle.cx_cdecl.proofs.Shapes.{punctuator_of, fits_own}
+use Rattle.cx_cword.specs.Marks.{fits}
+use Rattle.cx_cword.proofs.Marks.{is_fit, kind_of}
 
 -- ---- what may follow
 
@@ -175,19 +176,17 @@ name_plain (l.Keyword w) n e = absurd cc
 name_plain _ n e = refl
 
 pub name_no_mark : (mark : Mark) (kind : LexemeKind) (n : ℕ) → name_of kind ≡ Some n → fits mark kind ≡ false
-name_no_mark mark (l.Punctuator q) n e = absurd cc
-name_no_mark mark _ n e = refl
+name_no_mark mark (l.Name v) n e = refl
+name_no_mark mark (l.Attributive v) n e = refl
+name_no_mark mark _ n e = absurd cc
 
 -- ---- steps that go on
 
-pub is_fit : (mark : Mark) (o : Lexeme) → Is (punctuator_of mark) o → fits mark o.kind ≡ true
-is_fit mark o is = ap (fits mark) is ∙ fits_own mark
+pub wanted_goes : {A : Type 0} (mark : Mark) (o : Lexeme) (rest : List Lexeme) (go : List Lexeme → Option A) → o.kind ≡ kind_of mark → wanted mark (o ∷ rest) go ≡ go rest
+wanted_goes mark o rest go is = ap (λ (b : Bool). cond b (go rest) None) (is_fit mark o.kind is)
 
-pub wanted_goes : {A : Type 0} (mark : Mark) (o : Lexeme) (rest : List Lexeme) (go : List Lexeme → Option A) → Is (punctuator_of mark) o → wanted mark (o ∷ rest) go ≡ go rest
-wanted_goes mark o rest go is = ap (λ (b : Bool). cond b (go rest) None) (is_fit mark o is)
-
-pub choose_goes : {A : Type 0} (mark : Mark) (o : Lexeme) (rest : List Lexeme) (other : Option A) (go : List Lexeme → Option A) → Is (punctuator_of mark) o → choose mark (o ∷ rest) other go ≡ go rest
-choose_goes mark o rest other go is = ap (λ (b : Bool). cond b (go rest) other) (is_fit mark o is)
+pub choose_goes : {A : Type 0} (mark : Mark) (o : Lexeme) (rest : List Lexeme) (other : Option A) (go : List Lexeme → Option A) → o.kind ≡ kind_of mark → choose mark (o ∷ rest) other go ≡ go rest
+choose_goes mark o rest other go is = ap (λ (b : Bool). cond b (go rest) other) (is_fit mark o.kind is)
 
 pub choose_other : {A : Type 0} (mark : Mark) (os : List Lexeme) (other : Option A) (go : List Lexeme → Option A) → no_mark mark os ≡ true → choose mark os other go ≡ other
 choose_other mark [] other go e = refl

@@ -5,10 +5,11 @@ use Rattle.cx_ctree.specs.Decls.{MemberTree, DeclTree}
 use Rattle.cx_cword.specs.declared.lexeme.Lexeme.{Lexeme}
 use Rattle.cx_cname.specs.Known.{Known, with_tag, with_members, with_enum, is_complete, undeclared_members}
 use Rattle.cx_cdecl.proofs.TagSound.{got_last}
-use Rattle.cx_cdecl.specs.Declarations.{Beside, tag_declared, IsEnumList, enum_list, enum_list_comma, IsSpecifier, declared_before, new_tag, tag_members, members_alone, enum_named, enum_alone, AreSpecs, specs, IsMemberList, member_list, AreMembers, first_members, also_members, IsMemberLine, member_line, AreMemberNames, first_name, also_name, has_members}
+use Rattle.cx_cdecl.specs.Declarations.{Beside, tag_declared, IsEnumList, enum_list, enum_list_comma, IsSpecifier, declared_before, new_tag, tag_members, members_alone, enum_named, enum_alone, AreSpecs, specs, IsMemberList, member_list, AreMembers, first_members, also_members, IsMemberLine, member_line, AreMemberNames, first_name, also_name}
 use Rattle.cx_cdecl.proofs.EnumThere.{enumerators_grow}
 use Rattle.cx_cdecl.proofs.Follows.{both_so}
 use Rattle.cx_cdecl.proofs.Grows.{Grows, grows_none, grows_then, grows_more, grows_tag, grows_members, place_apart, apart_before, past_apart, no_members, grows_declared, grows_enum, are_complete, members_grow, complete_both}
+use Rattle.cx_cname.specs.Meanings.{has_members}
 
 pub list_grows : {earlier : List DeclTree} {env known : Known} {a : List Lexeme} → IsEnumList earlier env a known → Grows env known 0
 list_grows (enum_list o m opens h shuts) = enumerators_grow h

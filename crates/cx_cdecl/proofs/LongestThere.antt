@@ -16,11 +16,11 @@ use Rattle.cx_cexpr.specs.Reading.{Few, base_at}
 use Rattle.cx_cexpr.proofs.Counted.{NoWord}
 use Rattle.cx_cexpr.proofs.Steps.{bind_some, some_is}
 use Rattle.cx_cexpr.proofs.TypeAgain.{base_longest}
-use Rattle.cx_cdecl.specs.declared.kinds.Mark.{Mark}
-use Rattle.cx_cdecl.specs.declared.kinds.Mark.TheVariants as m
+use Rattle.cx_cword.specs.declared.mark.Mark.{Mark}
+use Rattle.cx_cword.specs.declared.mark.Mark.TheVariants as m
 use Rattle.cx_cdecl.specs.declared.kinds.Head.TheVariants as h
 use Rattle.cx_cdecl.specs.Declarations.{Beside, nothing_said, both_said, AreBeside, none_beside, word_beside, attributes_beside, IsSpecifier, declared_before, new_tag, tag_members, members_alone, enum_named, enum_alone, AreSpecs, specs, IsObject, IsFunction}
-use Rattle.cx_cdecl.specs.Kinds.{fits, head_of}
+use Rattle.cx_cdecl.specs.Kinds.{head_of}
 use Rattle.cx_cdecl.specs.Reading.{Got, After, Named, Specifier, Specs, Listing, Declared, choose, wanted, if_true, beside_at, after_at, place_at, plain_base, plain_at, specs_of, plain_specs_at, are_distinct, enum_listed, members_listed, listed_by, enumerators_in, specifier_by, listing_at, specs_after, specs_at, specifier_at, members_at, name_at, sizes_after, object_at, declares_object, param_list_at, function_after, declarator_at, or_else, front_specs_at, object_front, front_declarator_at}
 use Rattle.cx_cdecl.proofs.BesideSound.{after_sound}
 use Rattle.cx_cdecl.proofs.BesideThere.{attributes_there, beside_goes, beside_there}
@@ -34,10 +34,11 @@ use Rattle.cx_cdecl.proofs.MembersSound.{no_line, members_sound}
 use Rattle.cx_cdecl.proofs.MembersThere.{beside_less, specs_go}
 use Rattle.cx_cdecl.proofs.Only.{specs_only, object_only, function_only, object_no_function}
 use Rattle.cx_cdecl.proofs.ParamsSound.{param_list_sound}
-use Rattle.cx_cdecl.proofs.SpecsThere.{first_beside, specifier_first, first_counted, plain_of, plain_read, plain_head, listing_head, word_head, name_head, old_tag, fresh_tag, said_no_word}
+use Rattle.cx_cdecl.proofs.SpecsThere.{first_beside, specifier_first, first_counted, plain_of, plain_read, plain_head, listing_head, word_head, name_head, old_tag, fresh_tag, said_no_word, said_no_mark}
 use Rattle.cx_cdecl.proofs.Steps.{if_some, wanted_some, choose_some}
 use Rattle.cx_cdecl.proofs.TagSound.{Begins, Listings, listing_sound}
 use Rattle.cx_cdecl.proofs.TagSound as begins
+use Rattle.cx_cword.specs.Marks.{fits}
 
 -- ---- without a list in braces
 
@@ -51,7 +52,7 @@ record Keyed (d : List Lexeme) : Type 0 where
 
 beside_either : {d : List Lexeme} {r : Beside} → AreBeside d r → (d ≡ []) ⊎ Keyed d
 beside_either none_beside = inl refl
-beside_either (word_beside {os = os} {s = s} {said = r} o w is i f) = inr (record { o = o; tail = os; parts = refl; word = ap word_of is ∙ said_no_word w s r f; mark = λ mark. ap (fits mark) is })
+beside_either (word_beside {os = os} {s = s} {said = r} o w is i f) = inr (record { o = o; tail = os; parts = refl; word = ap word_of is ∙ said_no_word w s r f; mark = λ mark. ap (fits mark) is ∙ said_no_mark w s r f mark })
 beside_either (attributes_beside {a = a} {os = os} i j) =
     let f = attributes_there i in
     inr (record { o = f.o; tail = f.tail ++ os; parts = ap (λ (v : List Lexeme). v ++ os) f.parts; word = ap word_of f.is; mark = λ mark. ap (fits mark) f.is })

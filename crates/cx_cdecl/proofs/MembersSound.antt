@@ -7,12 +7,11 @@ use Rattle.cx_cword.specs.declared.word.Punctuator.TheVariants as p
 use Rattle.cx_cword.specs.declared.lexeme.Lexeme.{Lexeme}
 use Rattle.cx_cword.specs.Reading.{Is, IsWord, IsName, ◌>>=◌}
 use Rattle.cx_cname.specs.Known.{Known, with_members, is_complete}
-use Rattle.cx_cname.specs.Meanings.{may_have}
+use Rattle.cx_cname.specs.Meanings.{may_have, has_members}
 use Rattle.cx_cexpr.specs.Expressions.{tag_word}
 use Rattle.cx_cexpr.proofs.Steps.{bind_some, some_is, at_first, pick}
-use Rattle.cx_cdecl.specs.declared.kinds.Mark.TheVariants as m
-use Rattle.cx_cdecl.specs.Declarations.{Beside, nothing_said, IsObject, tag_members, members_alone, enum_named, enum_alone, IsMemberList, member_list, AreMembers, first_members, also_members, IsMemberLine, member_line, AreMemberNames, first_name, also_name, has_members}
-use Rattle.cx_cdecl.specs.Kinds.{fits}
+use Rattle.cx_cword.specs.declared.mark.Mark.TheVariants as m
+use Rattle.cx_cdecl.specs.Declarations.{Beside, nothing_said, IsObject, tag_members, members_alone, enum_named, enum_alone, IsMemberList, member_list, AreMembers, first_members, also_members, IsMemberLine, member_line, AreMemberNames, first_name, also_name}
 use Rattle.cx_cdecl.specs.Reading.{Got, After, Named, Specifier, Specs, Placed, Listing, wanted, choose, if_true, beside_at, place_at, plain_at, specs_of, object_at, member_names_at, are_distinct, named_enum, enum_listed, members_listed, listed_by, enumerators_in, specifier_by, listing_at, specs_after, line_names, members_by, specs_at, specifier_at, members_at, line_at}
 use Rattle.cx_cdecl.proofs.Steps.{if_some, wanted_some, choose_some}
 use Rattle.cx_cdecl.proofs.BesideSound.{beside_sound}
@@ -21,6 +20,7 @@ use Rattle.cx_cdecl.proofs.EnumSound.{enum_list_sound, and_parts}
 use Rattle.cx_cdecl.proofs.TagSound.{Declared, placed_so, declared_so, distinct_is, is_not, Begins, Listings, listing_sound}
 use Rattle.cx_cdecl.proofs.TagSound as begins
 use Rattle.cx_cdecl.proofs.SpecsSound.{SpecifierFront, SpecsFront, plain_sound, around}
+use Rattle.cx_cword.specs.Marks.{fits}
 
 -- ---- the declarators of a line of members
 

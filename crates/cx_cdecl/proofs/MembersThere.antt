@@ -12,10 +12,9 @@ use Rattle.cx_cname.specs.Known.{Known, with_tag, with_members, is_complete, tag
 use Rattle.cx_cname.specs.Meanings.{may_have}
 use Rattle.cx_cexpr.proofs.Counted.{NoWord}
 use Rattle.cx_cexpr.proofs.Steps.{some_is}
-use Rattle.cx_cdecl.specs.declared.kinds.Mark.{Mark}
-use Rattle.cx_cdecl.specs.declared.kinds.Mark.TheVariants as m
+use Rattle.cx_cword.specs.declared.mark.Mark.{Mark}
+use Rattle.cx_cword.specs.declared.mark.Mark.TheVariants as m
 use Rattle.cx_cdecl.specs.Declarations.{Beside, nothing_said, both_said, AreBeside, ArePointers, no_star, also_star, IsObject, object_of, IsSpecifier, declared_before, new_tag, tag_members, members_alone, enum_named, enum_alone, AreSpecs, specs, IsMemberList, member_list, AreMembers, first_members, also_members, IsMemberLine, member_line, AreMemberNames, first_name, also_name, tag_declared}
-use Rattle.cx_cdecl.specs.Kinds.{fits}
 use Rattle.cx_cdecl.specs.Reading.{Got, After, Named, Specifier, Specs, wanted, choose, if_true, beside_at, is_kind, place_by, place_at, plain_at, specs_of, plain_specs_at, object_at, member_names_at, are_distinct, named_enum, enum_listed, members_listed, listed_by, enumerators_in, specifier_by, listing_at, specs_after, line_names, members_by, specs_at, specifier_at, members_at, line_at}
 use Rattle.cx_cdecl.proofs.BesideSound.{beside_sound}
 use Rattle.cx_cdecl.proofs.BesideThere.{beside_goes, beside_ends, beside_there}
@@ -26,6 +25,7 @@ use Rattle.cx_cdecl.proofs.Grows.{Fits, fits_few, fits_after, fits_within, fits_
 use Rattle.cx_cdecl.proofs.Growing.{specs_grow, lines_grow, members_complete, free_so}
 use Rattle.cx_cdecl.proofs.SpecsThere.{First, first_beside, first_mark, first_filled, specifier_first, beside_word, beside_mark, listing_of, record_listed, record_bare, enum_listed_so, enum_bare, plain_of, PlainRead, base_read, new_tag_read, plain_read}
 use Rattle.cx_cdecl.proofs.TagSound.{new_place}
+use Rattle.cx_cword.specs.Marks.{fits}
 
 -- ---- what begins declarators and types
 

@@ -10,9 +10,8 @@ use Rattle.cx_cword.specs.declared.lexeme.Lexeme.{Lexeme}
 use Rattle.cx_cword.specs.Reading.{Is, IsName, name_of, ◌>>=◌}
 use Rattle.cx_cname.specs.Known.{Known, names_type, is_complete}
 use Rattle.cx_cexpr.proofs.Steps.{bind_some, some_is, at_rest}
-use Rattle.cx_cdecl.specs.declared.kinds.Mark.TheVariants as m
+use Rattle.cx_cword.specs.declared.mark.Mark.TheVariants as m
 use Rattle.cx_cdecl.specs.Declarations.{adjusted, names_used, are_outside, is_void_word, is_void_alone, AreSizes, AreSpecs, IsParamSize, param_plain, param_open, param_sized, IsParam, param_alone, param_named, AreParams, first_param, also_param, IsParamList, no_param, void_param, params}
-use Rattle.cx_cdecl.specs.Kinds.{fits}
 use Rattle.cx_cdecl.specs.Reading as reading
 use Rattle.cx_cdecl.specs.Reading.{Got, After, Specs, wanted, choose, if_true, pointers_at, sizes_at, sized_at, arrays, taken, Sized, element_of, param_size_at, Used, with_name, param_by, param_at, Params, params_at, no_params, closes_params, some_params, param_list_at, plain_specs_at}
 use Rattle.cx_cdecl.proofs.Shapes.{void_is}
@@ -21,6 +20,7 @@ use Rattle.cx_cdecl.proofs.DeclaratorSound.{Pointers, pointers_sound, Sizes, siz
 use Rattle.cx_cdecl.proofs.EnumSound.{and_parts}
 use Rattle.cx_cdecl.proofs.TagSound.{is_not}
 use Rattle.cx_cdecl.proofs.SpecsSound.{SpecsFront, plain_specs_sound, plain_unlisted}
+use Rattle.cx_cword.specs.Marks.{fits}
 
 -- ---- the sizes of a parameter
 

@@ -18,22 +18,23 @@ use Rattle.cx_cexpr.specs.Kinds.{word_of}
 use Rattle.cx_cexpr.specs.Expressions.{IsBase, void_word, int_words, type_name, tag_name, enum_name, tag_word}
 use Rattle.cx_cexpr.specs.Reading.{Few}
 use Rattle.cx_cexpr.proofs.Begins.{starts, starts_by, cond_begins}
-use Rattle.cx_cdecl.specs.declared.kinds.Mark.{Mark}
-use Rattle.cx_cdecl.specs.declared.kinds.Mark.TheVariants as m
+use Rattle.cx_cword.specs.declared.mark.Mark.{Mark}
+use Rattle.cx_cword.specs.declared.mark.Mark.TheVariants as m
 use Rattle.cx_cdecl.specs.Declarations.{Beside, also_said, adjusted, names_used, are_outside, is_void_word, is_void_alone, AreBeside, none_beside, word_beside, attributes_beside, ArePointers, no_star, also_star, AreSizes, no_size, also_size, IsParamSize, param_plain, param_open, param_sized, IsSpecifier, declared_before, new_tag, tag_members, members_alone, enum_named, enum_alone, AreSpecs, specs, IsParam, param_alone, param_named, AreParams, first_param, also_param, IsParamList, no_param, void_param, params}
-use Rattle.cx_cdecl.specs.Kinds.{fits}
 use Rattle.cx_cdecl.specs.Reading as reading
 use Rattle.cx_cdecl.specs.Reading.{Got, After, Specs, choose, if_true, pointers_at, sizes_at, sized_at, arrays, plain_specs_at, taken, Sized, element_of, param_size_at, Used, with_name, unnamed, param_by, param_at, Params, params_at, no_params, closes_params, some_params, param_list_at}
 use Rattle.cx_cdecl.proofs.BesideThere.{attributes_there}
 use Rattle.cx_cdecl.proofs.DeclaratorSound.{complete_arrays, path_arrays}
 use Rattle.cx_cdecl.proofs.DeclaratorThere.{pointers_there, SizesGo, sizes_go, sizes_end, sized_none, sized_there}
-use Rattle.cx_cdecl.proofs.Follows.{no_keyword, no_mark, closes, ends_type, is_keyword, is_closed_by, not_true, both_so, closes_star, closes_bracket, closes_type, name_no_mark, is_fit, choose_goes, choose_other, if_goes, bind_goes, Room}
+use Rattle.cx_cdecl.proofs.Follows.{no_keyword, no_mark, closes, ends_type, is_keyword, is_closed_by, not_true, both_so, closes_star, closes_bracket, closes_type, name_no_mark, choose_goes, choose_other, if_goes, bind_goes, Room}
+use Rattle.cx_cword.proofs.Marks.{is_fit}
 use Rattle.cx_cdecl.proofs.Grows.{Fits, fits_few, fits_after, fits_less, Grows, grows_none, grows_then, grows_more}
 use Rattle.cx_cdecl.proofs.Growing.{specs_grow}
 use Rattle.cx_cdecl.proofs.MembersThere.{pointers_begin, name_begins, specs_mark, specs_filled, specs_tree, plain_specs_there}
 use Rattle.cx_cdecl.proofs.ParamsSound.{taken_front}
-use Rattle.cx_cdecl.proofs.Shapes.{fits_is}
 use Rattle.cx_cdecl.proofs.SpecsThere.{beside_mark, first_counted}
+use Rattle.cx_cword.specs.Marks.{fits}
+use Rattle.cx_cword.proofs.Marks.{fits_is}
 
 -- ---- sizes of a parameter
 
@@ -424,13 +425,13 @@ list_of qs known rest = Some (record { tree = qs; known = known; rest = rest })
 none_reads : (turns : ℕ) (env : Known) (e : Lexeme) (rest : List Lexeme) → Is p.CloseParen e → param_list_at turns env (e ∷ rest) ≡ list_of [] env (e ∷ rest)
 unfolding param_list_at
 none_reads turns env e rest shuts =
-    ap (λ (b : Bool). cond b (list_of [] env (e ∷ rest)) (cond (is_void_word e.kind && closes_params rest) (list_of [] env rest) (some_params turns env (e ∷ rest)))) (is_fit m.CloseParen e shuts)
+    ap (λ (b : Bool). cond b (list_of [] env (e ∷ rest)) (cond (is_void_word e.kind && closes_params rest) (list_of [] env rest) (some_params turns env (e ∷ rest)))) (is_fit m.CloseParen e.kind shuts)
 
 void_reads : (turns : ℕ) (env : Known) (o e : Lexeme) (rest : List Lexeme) → IsWord k.Void o → Is p.CloseParen e → param_list_at turns env (o ∷ e ∷ rest) ≡ list_of [] env (e ∷ rest)
 unfolding param_list_at
 void_reads turns env o e rest is shuts =
     ap (λ (kind : LexemeKind). cond (fits m.CloseParen kind) (list_of [] env (o ∷ e ∷ rest)) (cond (is_void_word kind && fits m.CloseParen e.kind) (list_of [] env (e ∷ rest)) (some_params turns env (o ∷ e ∷ rest)))) is
-    ∙ ap (λ (b : Bool). cond b (list_of [] env (e ∷ rest)) (some_params turns env (o ∷ e ∷ rest))) (is_fit m.CloseParen e shuts)
+    ∙ ap (λ (b : Bool). cond b (list_of [] env (e ∷ rest)) (some_params turns env (o ∷ e ∷ rest))) (is_fit m.CloseParen e.kind shuts)
 
 list_reads : (turns : ℕ) (env : Known) (o : Lexeme) (os : List Lexeme) → fits m.CloseParen o.kind ≡ false → (is_void_word o.kind && closes_params os) ≡ false → param_list_at turns env (o ∷ os) ≡ some_params turns env (o ∷ os)
 unfolding param_list_at

@@ -7,90 +7,18 @@ use Rattle.cx_cword.specs.declared.word.Punctuator.TheVariants as p
 use Rattle.cx_cword.specs.declared.lexeme.LexemeKind.{LexemeKind}
 use Rattle.cx_cword.specs.declared.lexeme.LexemeKind.TheVariants as l
 use Rattle.cx_cexpr.specs.Expressions.{tag_word}
-use Rattle.cx_cdecl.specs.declared.kinds.Mark.{Mark}
-use Rattle.cx_cdecl.specs.declared.kinds.Mark.TheVariants as m
+use Rattle.cx_cword.specs.declared.mark.Mark.{Mark}
+use Rattle.cx_cword.specs.declared.mark.Mark.TheVariants as m
 use Rattle.cx_cdecl.specs.declared.kinds.Head.TheVariants as h
 use Rattle.cx_cdecl.specs.declared.kinds.Bracket.TheVariants as b
 use Rattle.cx_cdecl.specs.Declarations.{Beside, also_said, partner, is_plain, is_void_word}
-use Rattle.cx_cdecl.specs.Kinds.{mark_by, same_mark, fits_mark, fits, word_said, also_says, is_attribute, is_after, head_word, head_of, bracket_by, bracket_of}
-
--- ---- marks
-
-abbrev pub punctuator_of : Mark → Punctuator
-punctuator_of m.Star = p.Star
-punctuator_of m.Comma = p.Comma
-punctuator_of m.Semicolon = p.Semicolon
-punctuator_of m.Assign = p.Assign
-punctuator_of m.OpenParen = p.OpenParen
-punctuator_of m.CloseParen = p.CloseParen
-punctuator_of m.OpenBracket = p.OpenBracket
-punctuator_of m.CloseBracket = p.CloseBracket
-punctuator_of m.OpenBrace = p.OpenBrace
-punctuator_of m.CloseBrace = p.CloseBrace
-
-mark_is : (q : Punctuator) (n : Mark) → mark_by q ≡ Some n → punctuator_of n ≡ q
-mark_is p.Star n e = let f : m.Star ≡ n = cc in ap punctuator_of (sym f)
-mark_is p.Comma n e = let f : m.Comma ≡ n = cc in ap punctuator_of (sym f)
-mark_is p.Semicolon n e = let f : m.Semicolon ≡ n = cc in ap punctuator_of (sym f)
-mark_is p.Assign n e = let f : m.Assign ≡ n = cc in ap punctuator_of (sym f)
-mark_is p.OpenParen n e = let f : m.OpenParen ≡ n = cc in ap punctuator_of (sym f)
-mark_is p.CloseParen n e = let f : m.CloseParen ≡ n = cc in ap punctuator_of (sym f)
-mark_is p.OpenBracket n e = let f : m.OpenBracket ≡ n = cc in ap punctuator_of (sym f)
-mark_is p.CloseBracket n e = let f : m.CloseBracket ≡ n = cc in ap punctuator_of (sym f)
-mark_is p.OpenBrace n e = let f : m.OpenBrace ≡ n = cc in ap punctuator_of (sym f)
-mark_is p.CloseBrace n e = let f : m.CloseBrace ≡ n = cc in ap punctuator_of (sym f)
-mark_is _ n e = absurd cc
-
-mark_same : (a b : Mark) → same_mark a b ≡ true → a ≡ b
-mark_same m.Star m.Star e = refl
-mark_same m.Comma m.Comma e = refl
-mark_same m.Semicolon m.Semicolon e = refl
-mark_same m.Assign m.Assign e = refl
-mark_same m.OpenParen m.OpenParen e = refl
-mark_same m.CloseParen m.CloseParen e = refl
-mark_same m.OpenBracket m.OpenBracket e = refl
-mark_same m.CloseBracket m.CloseBracket e = refl
-mark_same m.OpenBrace m.OpenBrace e = refl
-mark_same m.CloseBrace m.CloseBrace e = refl
-mark_same _ _ e = absurd cc
-
-fits_by : (mark : Mark) (q : Punctuator) (o : Option Mark) → mark_by q ≡ o → fits_mark mark o ≡ true → q ≡ punctuator_of mark
-fits_by mark q None is e = absurd cc
-fits_by mark q (Some n) is e = sym (mark_is q n is) ∙ ap punctuator_of (sym (mark_same mark n e))
-
-pub fits_is : (mark : Mark) (kind : LexemeKind) → fits mark kind ≡ true → kind ≡ l.Punctuator (punctuator_of mark)
-fits_is mark (l.Punctuator q) e = ap l.Punctuator (fits_by mark q (mark_by q) refl e)
-fits_is mark (l.Keyword w) e = absurd cc
-fits_is mark (l.Constant v t) e = absurd cc
-fits_is mark (l.Name n) e = absurd cc
-fits_is mark (l.Attributive n) e = absurd cc
-fits_is mark l.Other e = absurd cc
-
-pub fits_own : (mark : Mark) → fits mark (l.Punctuator (punctuator_of mark)) ≡ true
-fits_own m.Star = refl
-fits_own m.Comma = refl
-fits_own m.Semicolon = refl
-fits_own m.Assign = refl
-fits_own m.OpenParen = refl
-fits_own m.CloseParen = refl
-fits_own m.OpenBracket = refl
-fits_own m.CloseBracket = refl
-fits_own m.OpenBrace = refl
-fits_own m.CloseBrace = refl
+use Rattle.cx_cdecl.specs.Kinds.{also_says, is_attribute, is_after, head_word, head_of, bracket_by, bracket_of}
+use Rattle.cx_cword.proofs.Marks.{kind_of}
 
 -- ---- words
 
-pub said_same : (w : Keyword) (s : Beside) → word_said w s ≡ also_said w s
-said_same k.Typedef s = refl
-said_same k.Extern s = refl
-said_same k.Static s = refl
-said_same k.Inline s = refl
-said_same k.Register s = refl
-said_same k.Skipped s = refl
-said_same _ s = refl
-
 pub says_is : (kind : LexemeKind) (s r : Beside) → also_says kind s ≡ Some r → (w : Keyword) × (kind ≡ l.Keyword w) × (also_said w s ≡ Some r)
-says_is (l.Keyword w) s r e = (w, refl, sym (said_same w s) ∙ e)
+says_is (l.Keyword w) s r e = (w, refl, e)
 says_is (l.Punctuator q) s r e = absurd cc
 says_is (l.Constant v t) s r e = absurd cc
 says_is (l.Name n) s r e = absurd cc
@@ -134,13 +62,19 @@ head_enum _ e = absurd cc
 
 -- ---- what stands among attributes
 
-open_by : (q : Punctuator) (close : Mark) → bracket_by q ≡ b.Open close → partner (l.Punctuator q) ≡ Some (punctuator_of close)
-open_by p.OpenParen close e = let f : m.CloseParen ≡ close = cc in ap (λ c. Some (punctuator_of c)) f
-open_by p.OpenBracket close e = let f : m.CloseBracket ≡ close = cc in ap (λ c. Some (punctuator_of c)) f
-open_by p.OpenBrace close e = let f : m.CloseBrace ≡ close = cc in ap (λ c. Some (punctuator_of c)) f
+-- the bracket that the mark is closes what the lexeme opens
+pub record Closing (kind : LexemeKind) (mark : Mark) : Type 0 where
+  pub close : Punctuator
+  pub is : partner kind ≡ Some close
+  pub same : kind_of mark ≡ l.Punctuator close
+
+open_by : (q : Punctuator) (close : Mark) → bracket_by q ≡ b.Open close → Closing (l.Punctuator q) close
+open_by p.OpenParen close e = let f : m.CloseParen ≡ close = cc in record { close = p.CloseParen; is = refl; same = ap kind_of (sym f) }
+open_by p.OpenBracket close e = let f : m.CloseBracket ≡ close = cc in record { close = p.CloseBracket; is = refl; same = ap kind_of (sym f) }
+open_by p.OpenBrace close e = let f : m.CloseBrace ≡ close = cc in record { close = p.CloseBrace; is = refl; same = ap kind_of (sym f) }
 open_by _ close e = absurd cc
 
-pub bracket_open : (kind : LexemeKind) (close : Mark) → bracket_of kind ≡ b.Open close → partner kind ≡ Some (punctuator_of close)
+pub bracket_open : (kind : LexemeKind) (close : Mark) → bracket_of kind ≡ b.Open close → Closing kind close
 bracket_open (l.Punctuator q) close e = open_by q close e
 bracket_open (l.Keyword w) close e = absurd cc
 bracket_open (l.Constant v t) close e = absurd cc

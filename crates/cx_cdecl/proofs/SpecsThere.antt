@@ -23,16 +23,17 @@ use Rattle.cx_cexpr.proofs.Counting.{counted_some}
 use Rattle.cx_cexpr.proofs.Counted.{NoWord}
 use Rattle.cx_cexpr.proofs.Steps.{bind_some}
 use Rattle.cx_cexpr.proofs.TypeAgain.{base_there}
-use Rattle.cx_cdecl.specs.declared.kinds.Mark.{Mark}
-use Rattle.cx_cdecl.specs.declared.kinds.Mark.TheVariants as m
+use Rattle.cx_cword.specs.declared.mark.Mark.{Mark}
+use Rattle.cx_cword.specs.declared.mark.Mark.TheVariants as m
 use Rattle.cx_cdecl.specs.declared.kinds.Head.{Head}
 use Rattle.cx_cdecl.specs.declared.kinds.Head.TheVariants as h
 use Rattle.cx_cdecl.specs.Declarations.{Beside, also_said, AreBeside, none_beside, word_beside, attributes_beside, IsSpecifier, declared_before, new_tag, tag_members, members_alone, enum_named, enum_alone}
-use Rattle.cx_cdecl.specs.Kinds.{fits, head_of}
+use Rattle.cx_cdecl.specs.Kinds.{head_of}
 use Rattle.cx_cdecl.specs.Reading.{Got, After, Specifier, Placed, Listing, is_kind, place_by, place_at, plain_tag, plain_base, plain_by, plain_at, braced, braced_name, listing_after, listing_by, listing_at}
 use Rattle.cx_cdecl.proofs.BesideThere.{attributes_there}
 use Rattle.cx_cdecl.proofs.Follows.{is_beside, no_beside, no_mark, name_no_mark, choose_goes, choose_other, named_goes, if_goes}
 use Rattle.cx_cdecl.proofs.Grows.{kind_so}
+use Rattle.cx_cword.specs.Marks.{fits}
 
 -- ---- what begins the words of a type
 
@@ -59,19 +60,27 @@ word_beside_not (l.Keyword _) u e = refl
 word_beside_not _ u e = refl
 
 word_no_mark : (mark : Mark) (kind : LexemeKind) (u : IntWord) → word_of kind ≡ Some u → fits mark kind ≡ false
-word_no_mark mark (l.Keyword w) u e = refl
+word_no_mark mark (l.Keyword k.While) u e = absurd cc
+word_no_mark mark (l.Keyword k.Else) u e = absurd cc
+word_no_mark mark (l.Keyword _) u e = refl
 word_no_mark mark _ u e = absurd cc
 
 name_not_beside : (kind : LexemeKind) (n : ℕ) → name_of kind ≡ Some n → is_beside kind ≡ false
 name_not_beside (l.Keyword w) n e = absurd cc
 name_not_beside _ n e = refl
 
-tag_not_beside : (union : Bool) → is_beside (l.Keyword (tag_word union)) ≡ false
-tag_not_beside false = refl
-tag_not_beside true = refl
+void_starts : Starts (l.Keyword k.Void)
+void_starts = record { beside = refl; mark = λ mark. refl }
 
-word_starts : (w : Keyword) (o : Lexeme) → IsWord w o → is_beside (l.Keyword w) ≡ false → Starts o.kind
-word_starts w o is e = record { beside = ap is_beside is ∙ e; mark = λ mark. ap (fits mark) is }
+enum_starts : Starts (l.Keyword k.Enum)
+enum_starts = record { beside = refl; mark = λ mark. refl }
+
+tag_starts : (union : Bool) → Starts (l.Keyword (tag_word union))
+tag_starts false = record { beside = refl; mark = λ mark. refl }
+tag_starts true = record { beside = refl; mark = λ mark. refl }
+
+word_starts : (w : Keyword) (o : Lexeme) → IsWord w o → Starts (l.Keyword w) → Starts o.kind
+word_starts w o is e = subst Starts (sym is) e
 
 name_starts : (o : Lexeme) (n : ℕ) → IsName n o → Starts o.kind
 name_starts o n is = record { beside = name_not_beside o.kind n is; mark = λ mark. name_no_mark mark o.kind n is }
@@ -95,19 +104,19 @@ counted_first : (os : List Lexeme) → Counted os → First os
 counted_first os f = record { o = f.o; tail = f.tail; parts = f.parts; starts = record { beside = word_beside_not f.o.kind f.u f.is; mark = λ mark. word_no_mark mark f.o.kind f.u f.is } }
 
 pub base_first : {env : Known} {os : List Lexeme} {t : TypeTree} → IsBase env os t → First os
-base_first (void_word o e) = record { o = o; tail = []; parts = refl; starts = word_starts k.Void o e refl }
+base_first (void_word o e) = record { o = o; tail = []; parts = refl; starts = word_starts k.Void o e void_starts }
 base_first (int_words {os = os} t h) = counted_first os (first_counted os t h)
 base_first (type_name o n t e f) = record { o = o; tail = []; parts = refl; starts = name_starts o n e }
-base_first (tag_name o w n at union e f g i) = record { o = o; tail = w ∷ []; parts = refl; starts = word_starts (tag_word union) o e (tag_not_beside union) }
-base_first (enum_name o w n e f g) = record { o = o; tail = w ∷ []; parts = refl; starts = word_starts k.Enum o e refl }
+base_first (tag_name o w n at union e f g i) = record { o = o; tail = w ∷ []; parts = refl; starts = word_starts (tag_word union) o e (tag_starts union) }
+base_first (enum_name o w n e f g) = record { o = o; tail = w ∷ []; parts = refl; starts = word_starts k.Enum o e enum_starts }
 
 pub specifier_first : {earlier : List DeclTree} {env known : Known} {os : List Lexeme} {t : TypeTree} {listed : Bool} → IsSpecifier earlier env os t listed known → First os
 specifier_first (declared_before i low) = base_first i
-specifier_first (new_tag o w n union e f g) = record { o = o; tail = w ∷ []; parts = refl; starts = word_starts (tag_word union) o e (tag_not_beside union) }
-specifier_first (tag_members {a = a} o w n at union e f g i j q) = record { o = o; tail = w ∷ a; parts = refl; starts = word_starts (tag_word union) o e (tag_not_beside union) }
-specifier_first (members_alone {a = a} o union e f) = record { o = o; tail = a; parts = refl; starts = word_starts (tag_word union) o e (tag_not_beside union) }
-specifier_first (enum_named {a = a} o w n e f g) = record { o = o; tail = w ∷ a; parts = refl; starts = word_starts k.Enum o e refl }
-specifier_first (enum_alone {a = a} o e f) = record { o = o; tail = a; parts = refl; starts = word_starts k.Enum o e refl }
+specifier_first (new_tag o w n union e f g) = record { o = o; tail = w ∷ []; parts = refl; starts = word_starts (tag_word union) o e (tag_starts union) }
+specifier_first (tag_members {a = a} o w n at union e f g i j q) = record { o = o; tail = w ∷ a; parts = refl; starts = word_starts (tag_word union) o e (tag_starts union) }
+specifier_first (members_alone {a = a} o union e f) = record { o = o; tail = a; parts = refl; starts = word_starts (tag_word union) o e (tag_starts union) }
+specifier_first (enum_named {a = a} o w n e f g) = record { o = o; tail = w ∷ a; parts = refl; starts = word_starts k.Enum o e enum_starts }
+specifier_first (enum_alone {a = a} o e f) = record { o = o; tail = a; parts = refl; starts = word_starts k.Enum o e enum_starts }
 
 pub first_beside : (os rest : List Lexeme) → First os → no_beside (os ++ rest) ≡ true
 first_beside os rest f = ap (λ (v : List Lexeme). no_beside (v ++ rest)) f.parts ∙ ap not f.starts.beside
@@ -129,6 +138,11 @@ said_no_word k.Signed s r e = absurd cc
 said_no_word k.Unsigned s r e = absurd cc
 said_no_word _ s r e = refl
 
+pub said_no_mark : (w : Keyword) (s r : Beside) → also_said w s ≡ Some r → (mark : Mark) → fits mark (l.Keyword w) ≡ false
+said_no_mark k.While s r e mark = absurd cc
+said_no_mark k.Else s r e mark = absurd cc
+said_no_mark _ s r e mark = refl
+
 pub beside_word : {a : List Lexeme} {s : Beside} → AreBeside a s → (rest : List Lexeme) → NoWord rest → NoWord (a ++ rest)
 beside_word none_beside rest e = e
 beside_word (word_beside {s = s} {said = r} o w is i f) rest e = ap word_of is ∙ said_no_word w s r f
@@ -138,7 +152,7 @@ beside_word (attributes_beside {a = a} {os = os} i j) rest e =
 
 pub beside_mark : {a : List Lexeme} {s : Beside} → AreBeside a s → (mark : Mark) (rest : List Lexeme) → no_mark mark rest ≡ true → no_mark mark (a ++ rest) ≡ true
 beside_mark none_beside mark rest e = e
-beside_mark (word_beside o w is i f) mark rest e = ap (λ (kind : LexemeKind). not (fits mark kind)) is
+beside_mark (word_beside {s = s} {said = r} o w is i f) mark rest e = ap (λ (kind : LexemeKind). not (fits mark kind)) is ∙ ap not (said_no_mark w s r f mark)
 beside_mark (attributes_beside {a = a} {os = os} i j) mark rest e =
     let f = attributes_there i in
     ap (λ (v : List Lexeme). no_mark mark ((v ++ os) ++ rest)) f.parts ∙ ap (λ (kind : LexemeKind). not (fits mark kind)) f.is

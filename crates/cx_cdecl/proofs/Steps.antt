@@ -3,10 +3,10 @@ use Rattle.std.proofs.Common.{◌≡◌, Bool, true, false, cond, List, [], ◌�
 use Rattle.cx_cword.specs.declared.lexeme.Lexeme.{Lexeme}
 use Rattle.cx_cword.specs.Reading.{Is}
 use Rattle.cx_cexpr.proofs.Steps.{at_first, test_some}
-use Rattle.cx_cdecl.specs.declared.kinds.Mark.{Mark}
-use Rattle.cx_cdecl.specs.Kinds.{fits}
+use Rattle.cx_cword.specs.declared.mark.Mark.{Mark}
 use Rattle.cx_cdecl.specs.Reading.{wanted, choose, if_true}
-use Rattle.cx_cdecl.proofs.Shapes.{punctuator_of, fits_is}
+use Rattle.cx_cword.specs.Marks.{fits}
+use Rattle.cx_cword.proofs.Marks.{fits_is, kind_of}
 
 pub if_some : {A : Type 0} (b : Bool) (o : Option A) (g : A) → if_true b o ≡ Some g → (b ≡ true) × (o ≡ Some g)
 if_some true o g e = (refl, e)
@@ -16,7 +16,7 @@ if_some false o g e = absurd cc
 pub record Marked (mark : Mark) (os rest : List Lexeme) : Type 0 where
   pub at : Lexeme
   pub parts : os ≡ at ∷ rest
-  pub is : Is (punctuator_of mark) at
+  pub is : at.kind ≡ kind_of mark
 
 pub wanted_some : {A : Type 0} (mark : Mark) (os : List Lexeme) (go : List Lexeme → Option A) (g : A) → wanted mark os go ≡ Some g
     → (rest : List Lexeme) × Marked mark os rest × (go rest ≡ Some g)

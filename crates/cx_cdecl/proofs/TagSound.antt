@@ -18,15 +18,17 @@ use Rattle.cx_cname.specs.Known.{Known, has_name, tag_place, HasKind, undeclared
 use Rattle.cx_cexpr.specs.Expressions.{tag_word}
 use Rattle.cx_cexpr.specs.Reading.{same_kind}
 use Rattle.cx_cexpr.proofs.Steps.{some_is, at_first}
-use Rattle.cx_cdecl.specs.declared.kinds.Mark.TheVariants as m
+use Rattle.cx_cword.specs.declared.mark.Mark.TheVariants as m
 use Rattle.cx_cdecl.specs.declared.kinds.Head.{Head}
 use Rattle.cx_cdecl.specs.declared.kinds.Head.TheVariants as h
 use Rattle.cx_cdecl.specs.Declarations.{tag_declared}
-use Rattle.cx_cdecl.specs.Kinds.{fits, head_of}
+use Rattle.cx_cdecl.specs.Kinds.{head_of}
 use Rattle.cx_cdecl.specs.Reading.{Got, Placed, new_tag, is_kind, place_by, place_at, names_member, are_distinct, Listing, braced_name, listing_after, listing_by, listing_at}
 use Rattle.cx_cdecl.proofs.EnumSound.{and_parts}
-use Rattle.cx_cdecl.proofs.Shapes.{fits_is, head_record, head_enum}
+use Rattle.cx_cdecl.proofs.Shapes.{head_record, head_enum}
 use Rattle.cx_cdecl.proofs.Steps.{if_some, choose_some}
+use Rattle.cx_cword.specs.Marks.{fits}
+use Rattle.cx_cword.proofs.Marks.{fits_is}
 
 -- ---- a tag that is declared anew
 

@@ -10,11 +10,12 @@ use Rattle.cx_ctree.specs.declared.decl.Member.{Member}
 use Rattle.std.proofs.lemmas.List.{map-append}
 use Rattle.cx_cname.specs.Known.{Known, is_complete}
 use Rattle.cx_cexpr.specs.Reading.{skip_at}
-use Rattle.cx_cdecl.specs.declared.kinds.Mark.{Mark}
-use Rattle.cx_cdecl.specs.declared.kinds.Mark.TheVariants as m
+use Rattle.cx_cword.specs.declared.mark.Mark.{Mark}
+use Rattle.cx_cword.specs.declared.mark.Mark.TheVariants as m
 use Rattle.cx_cdecl.specs.Declarations.{Beside, nothing_said}
 use Rattle.cx_cdecl.specs.Kinds.{also_says, is_attribute, is_after, bracket_of}
-use Rattle.cx_cdecl.specs.Reading.{if_true, balanced_by, balanced_at, attributes_at, beside_by, beside_at, after_by, after_at, choose, Unwanted, pointers_at, sizes_by, size_at, sizes_at, enumerator_at, enumerators_by, enumerators_at, object_at, member_names_at, specs_after, plain_at, listing_at, specifier_by, listed_by, enumerators_in, line_names, members_by, specs_at, specifier_at, members_at, line_at, Params, also_param, param_at, params_at, init_declarator_at, init_declarators_at}
+use Rattle.cx_cdecl.specs.Reading.{if_true, balanced_by, balanced_at, attributes_at, beside_by, beside_at, after_by, after_at, choose, pointers_at, sizes_by, size_at, sizes_at, enumerator_at, enumerators_by, enumerators_at, object_at, member_names_at, specs_after, plain_at, listing_at, specifier_by, listed_by, enumerators_in, line_names, members_by, specs_at, specifier_at, members_at, line_at, Params, also_param, param_at, params_at, init_declarator_at, init_declarators_at}
+use Rattle.cx_cword.specs.Marks.{Lacks}
 
 pub balanced_turn : (n : ℕ) (os : List Lexeme) → 0 < n → balanced_at n os ≡ at_lexeme os (Some os) (λ o rest. balanced_by (balanced_at (n - 1)) o rest (bracket_of o.kind))
 unfolding balanced_at
@@ -72,7 +73,7 @@ unfolding sizes_at
 sizes_none turns env d ns os h = rw h refl
 
 -- without the mark
-pub chosen_not : {A : Type 0} (mark : Mark) (os : List Lexeme) (other : Option A) (go : List Lexeme → Option A) → Unwanted mark os → choose mark os other go ≡ other
+pub chosen_not : {A : Type 0} (mark : Mark) (os : List Lexeme) (other : Option A) (go : List Lexeme → Option A) → Lacks mark os → choose mark os other go ≡ other
 chosen_not mark [] other go h = refl
 chosen_not mark (o ∷ os) other go h = rw h refl
 

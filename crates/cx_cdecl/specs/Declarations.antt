@@ -20,6 +20,7 @@ use Rattle.cx_cname.specs.Known.{Known, names_type, has_name, a_type, an_object,
 use Rattle.cx_cword.specs.Reading.{Is, IsWord, name_of, IsName}
 use Rattle.cx_cconst.specs.Constants.{constant_in, is_constant}
 use Rattle.cx_cexpr.specs.Expressions.{AreSkipped, tag_word, IsBase, IsCond}
+use Rattle.cx_cname.specs.Meanings.{has_members}
 
 -- ---- words and attributes beside a type
 
@@ -33,6 +34,7 @@ pub record Beside : Type 0 where
 abbrev pub nothing_said : Beside
 nothing_said = record { typedef_ = false; linked = false; stored = false; attributed = false }
 
+-- what the word adds to what those after it say
 abbrev pub also_said : Keyword → Beside → Option Beside
 also_said k.Typedef s = Some (record s { typedef_ = true; stored = true })
 also_said k.Extern s = Some (record s { linked = true; stored = true })
@@ -136,9 +138,6 @@ are_outside qs ns = list_all (λ n. not (list_any (λ q. has_name n q.name) qs))
 -- the tag of this name, declared where it is not
 abbrev pub tag_declared : Known → ℕ → Bool → Known
 tag_declared env n union = if is_some (tag_place env n) then env else with_tag env (Some n) union
-
-abbrev pub has_members : Known → ℕ → Bool
-has_members env at = option_map_or (λ t. is_some t.members) (slice_get env.tags at) false
 
 -- an enumerator, where `next` is one more than the last value: its value, which int holds
 pub data IsEnumerator (env : Known) (next : ℤ) : List Lexeme → ℕ → ℤ → Type 0 where

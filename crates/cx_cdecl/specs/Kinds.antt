@@ -6,65 +6,19 @@ use Rattle.cx_cword.specs.declared.word.Punctuator.{Punctuator}
 use Rattle.cx_cword.specs.declared.word.Punctuator.TheVariants as p
 use Rattle.cx_cword.specs.declared.lexeme.LexemeKind.{LexemeKind}
 use Rattle.cx_cword.specs.declared.lexeme.LexemeKind.TheVariants as l
-use Rattle.cx_cdecl.specs.declared.kinds.Mark.{Mark}
-use Rattle.cx_cdecl.specs.declared.kinds.Mark.TheVariants as m
+use Rattle.cx_cword.specs.declared.mark.Mark.{Mark}
+use Rattle.cx_cword.specs.declared.mark.Mark.TheVariants as m
 use Rattle.cx_cdecl.specs.declared.kinds.Head.{Head}
 use Rattle.cx_cdecl.specs.declared.kinds.Head.TheVariants as h
 use Rattle.cx_cdecl.specs.declared.kinds.Bracket.{Bracket}
 use Rattle.cx_cdecl.specs.declared.kinds.Bracket.TheVariants as b
-use Rattle.cx_cdecl.specs.Declarations.{Beside}
-
--- ---- marks
-
-abbrev pub mark_by : Punctuator → Option Mark
-mark_by p.Star = Some m.Star
-mark_by p.Comma = Some m.Comma
-mark_by p.Semicolon = Some m.Semicolon
-mark_by p.Assign = Some m.Assign
-mark_by p.OpenParen = Some m.OpenParen
-mark_by p.CloseParen = Some m.CloseParen
-mark_by p.OpenBracket = Some m.OpenBracket
-mark_by p.CloseBracket = Some m.CloseBracket
-mark_by p.OpenBrace = Some m.OpenBrace
-mark_by p.CloseBrace = Some m.CloseBrace
-mark_by _ = None
-
-abbrev pub same_mark : Mark → Mark → Bool
-same_mark m.Star m.Star = true
-same_mark m.Comma m.Comma = true
-same_mark m.Semicolon m.Semicolon = true
-same_mark m.Assign m.Assign = true
-same_mark m.OpenParen m.OpenParen = true
-same_mark m.CloseParen m.CloseParen = true
-same_mark m.OpenBracket m.OpenBracket = true
-same_mark m.CloseBracket m.CloseBracket = true
-same_mark m.OpenBrace m.OpenBrace = true
-same_mark m.CloseBrace m.CloseBrace = true
-same_mark _ _ = false
-
-abbrev pub fits_mark : Mark → Option Mark → Bool
-fits_mark mark None = false
-fits_mark mark (Some other) = same_mark mark other
-
--- the lexeme is this mark
-abbrev pub fits : Mark → LexemeKind → Bool
-fits mark (l.Punctuator p) = fits_mark mark (mark_by p)
-fits mark _ = false
+use Rattle.cx_cdecl.specs.Declarations.{Beside, also_said}
 
 -- ---- words
 
--- what the word adds to what those before it say
-abbrev pub word_said : Keyword → Beside → Option Beside
-word_said k.Typedef s = Some (record s { typedef_ = true; stored = true })
-word_said k.Extern s = Some (record s { linked = true; stored = true })
-word_said k.Static s = Some (record s { linked = true; stored = true })
-word_said k.Inline s = Some (record s { stored = true })
-word_said k.Register s = Some (record s { stored = true })
-word_said k.Skipped s = Some s
-word_said _ s = None
-
+-- what the lexeme adds, where it is a word beside a type
 abbrev pub also_says : LexemeKind → Beside → Option Beside
-also_says (l.Keyword word) s = word_said word s
+also_says (l.Keyword word) s = also_said word s
 also_says _ s = None
 
 abbrev pub is_attribute : LexemeKind → Bool

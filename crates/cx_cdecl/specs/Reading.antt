@@ -19,8 +19,8 @@ use Rattle.cx_cconst.specs.Constants.{constant_in, is_constant}
 use Rattle.cx_cexpr.specs.Reading.{named, skip_at, base_at, cond_at, same_kind}
 use Rattle.cx_cexpr.specs.Reading as expr
 use Rattle.std.specs.Prelude.{slice_get, option_map}
-use Rattle.cx_cdecl.specs.declared.kinds.Mark.{Mark}
-use Rattle.cx_cdecl.specs.declared.kinds.Mark.TheVariants as m
+use Rattle.cx_cword.specs.declared.mark.Mark.{Mark}
+use Rattle.cx_cword.specs.declared.mark.Mark.TheVariants as m
 use Rattle.cx_cdecl.specs.declared.kinds.Head.{Head}
 use Rattle.cx_cdecl.specs.declared.kinds.Head.TheVariants as h
 use Rattle.cx_cdecl.specs.declared.kinds.Bracket.{Bracket}
@@ -47,7 +47,8 @@ use Rattle.cx_cdecl.specs.declared.declaration.ReadDecls.{ReadDecls}
 use Rattle.cx_cdecl.specs.declared.attributes.ReadSaid.{ReadSaid}
 use Rattle.cx_cdecl.specs.Declarations.{Beside, nothing_said, both_said, adjusted, names_used, are_outside, is_void_word, is_function}
 use Rattle.cx_cdecl.specs.Derived.{open_after}
-use Rattle.cx_cdecl.specs.Kinds.{fits, also_says, is_attribute, is_after, head_of, bracket_of}
+use Rattle.cx_cdecl.specs.Kinds.{also_says, is_attribute, is_after, head_of, bracket_of}
+use Rattle.cx_cword.specs.Marks.{fits}
 
 -- what was read, and the lexemes after it
 pub record Got (A : Type 0) : Type 0 where
@@ -79,15 +80,6 @@ wanted mark os go = at_lexeme os None (λ o rest. if fits mark o.kind then go re
 -- the mark, and then; or without it
 abbrev pub choose : {A : Type 0} → Mark → List Lexeme → Option A → (List Lexeme → Option A) → Option A
 choose mark os other go = at_lexeme os other (λ o rest. if fits mark o.kind then go rest else other)
-
-abbrev pub Unwanted : Mark → List Lexeme → Type 0
-Unwanted mark [] = Unit {0}
-Unwanted mark (o ∷ os) = fits mark o.kind ≡ false
-
--- the first lexeme, where it is this mark, and those after it
-abbrev pub Wanted : Mark → Option (Lexeme × Bor (List Lexeme)) → List Lexeme → Type 0
-Wanted mark None os = Unwanted mark os
-Wanted mark (Some p) os = (os ≡ p.0 ∷ p.1.now) × (fits mark p.0.kind ≡ true)
 
 abbrev pub if_true : {A : Type 0} → Bool → Option A → Option A
 if_true b o = if b then o else None

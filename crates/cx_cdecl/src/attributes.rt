@@ -3,8 +3,8 @@
 ghost use Rattle.std.specs.Prelude.{◌≡◌, option_map};
 ghost use Rattle.cx_cdecl.specs.Reading.{Got, said_tree, got_said, if_true, balanced_at, attributes_at, beside_at, after_at};
 
-use crate::kinds::{Bracket, Mark, Said, also_says, bracket_of, is_after, is_attribute, wanted};
-use cx_cword::{Lexeme, split};
+use crate::kinds::{Bracket, Said, also_says, bracket_of, is_after, is_attribute};
+use cx_cword::{Lexeme, Mark, next, split};
 
 /// What the words beside a type say, and the lexemes after them.
 #[derive(Clone, Copy)]
@@ -29,7 +29,7 @@ fn balanced<'a>(turns: usize, lexemes: &'a [Lexeme]) -> Option<&'a [Lexeme]>
                 Bracket::Stop => return Some(rest),
                 Bracket::Open(close) => match balanced(n, after) {
                     None => return None,
-                    Some(inside) => match wanted(close, inside) {
+                    Some(inside) => match next(close, inside) {
                         None => return None,
                         Some((_, past)) => rest = past,
                     },
@@ -45,11 +45,11 @@ fn balanced<'a>(turns: usize, lexemes: &'a [Lexeme]) -> Option<&'a [Lexeme]>
 fn attributes<'a>(turns: usize, lexemes: &'a [Lexeme]) -> Option<&'a [Lexeme]>
     ensures { option_map (λ r. r.now) result ≡ attributes_at turns lexemes.now }
 {
-    match wanted(Mark::OpenParen, lexemes) {
+    match next(Mark::OpenParen, lexemes) {
         None => None,
         Some((_, rest)) => match balanced(turns, rest) {
             None => None,
-            Some(inside) => match wanted(Mark::CloseParen, inside) {
+            Some(inside) => match next(Mark::CloseParen, inside) {
                 None => None,
                 Some((_, after)) => Some(after),
             },

@@ -14,7 +14,7 @@ ghost use Rattle.cx_cdecl.specs.Reading as spec;
 
 use crate::attributes::after_params;
 use crate::declarator::{ReadNamed, name, sizes_after};
-use crate::kinds::{Mark, wanted};
+
 use crate::member::specs;
 use crate::param::param_list;
 use crate::specifier::ReadSpecs;
@@ -24,7 +24,7 @@ use cx_cexpr::cond;
 use cx_cname::meaning::{may_be_function, may_be_object, may_be_type};
 use cx_cname::{Change, add_typedef};
 use cx_ctree::{CType, Decl, Signature, Unit};
-use cx_cword::{Lexeme, Stop};
+use cx_cword::{Lexeme, Mark, Stop, next};
 use std::alloc::Global;
 
 /// What a declarator declares: an object, or a function.
@@ -81,7 +81,7 @@ fn function_after<'a>(
     ensures items { known.new.items ≡ known.old.items }
 {
     let q = param_list(alloc, known, changes, turns, lexemes)?;
-    match wanted(Mark::CloseParen, q.rest) {
+    match next(Mark::CloseParen, q.rest) {
         None => Err(Stop::Unread),
         Some((_, after)) => Ok(ReadDeclarator {
             kind: DeclaratorKind::Function(Signature {
@@ -130,7 +130,7 @@ pub fn declarator<'a>(
     ensures items { known.new.items ≡ known.old.items }
 {
     let x = name(alloc, turns, base, high, lexemes)?;
-    match wanted(Mark::OpenParen, x.rest) {
+    match next(Mark::OpenParen, x.rest) {
         None => object_after(alloc, known, turns, x),
         Some((_, rest)) => function_after(alloc, known, changes, turns, x, rest),
     }
@@ -146,7 +146,7 @@ fn initialiser<'a>(
 ) -> Result<&'a [Lexeme], Stop>
     ensures { Gives (λ r. r.now) result (initialiser_at turns (known_of known.now) lexemes.now) }
 {
-    match wanted(Mark::Assign, lexemes) {
+    match next(Mark::Assign, lexemes) {
         None => Ok(lexemes),
         Some((_, rest)) => {
             let x = cond(alloc, known, turns, 400, rest)?;
@@ -298,7 +298,7 @@ fn init_declarators<'a>(
             Err(Stop::Unread) => return Err(Stop::Unread),
             Ok(x) => {
                 add_decl(&mut decls, x.decl)?;
-                match wanted(Mark::Comma, x.rest) {
+                match next(Mark::Comma, x.rest) {
                     None => {
                         return Ok(ReadDecls {
                             decls,
@@ -348,7 +348,7 @@ fn some_declarators<'a>(
     ensures items { known.new.items ≡ known.old.items }
 {
     let x = init_declarators(alloc, known, changes, turns, s)?;
-    match wanted(Mark::Semicolon, x.rest) {
+    match next(Mark::Semicolon, x.rest) {
         None => Err(Stop::Unread),
         Some((_, after)) => {
             if s.said.attributed && !are_functions(x.decls.as_slice()) {
@@ -376,7 +376,7 @@ fn declarators_after<'a>(
     ensures kept { past changes.new known.new ≡ past changes.old known.old }
     ensures items { known.new.items ≡ known.old.items }
 {
-    match wanted(Mark::Semicolon, s.rest) {
+    match next(Mark::Semicolon, s.rest) {
         None => some_declarators(alloc, known, changes, turns, s),
         Some((_, after)) => {
             if s.said.attributed {

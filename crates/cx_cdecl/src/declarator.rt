@@ -8,13 +8,13 @@ ghost use Rattle.cx_cname.specs.Known.{known_of};
 ghost use Rattle.cx_cdecl.specs.Reading.{Numbered, got_pointers, got_size, got_sizes, got_named, pointers_at, size_at, sizes_at, sized_at, name_at, object_at};
 ghost use Rattle.cx_cdecl.specs.Reading as spec;
 
-use crate::kinds::{Mark, wanted};
+
 use cx_base::List;
 use cx_cconst::constant_value;
 use cx_cexpr::{cond, named, pointer_to, skipped};
 use cx_cname::is_complete;
 use cx_ctree::{CType, Unit};
-use cx_cword::{Lexeme, Stop};
+use cx_cword::{Lexeme, Mark, Stop, next};
 use std::alloc::{AllocError, Global};
 
 /// A type with its stars, how many nodes its longest path has, and the lexemes after it.
@@ -73,7 +73,7 @@ pub fn pointers<'a>(
         if height > 400 {
             return Err(Stop::Unread);
         }
-        match wanted(Mark::Star, rest) {
+        match next(Mark::Star, rest) {
             None => {
                 return Ok(ReadPointers {
                     ctype,
@@ -112,11 +112,11 @@ pub fn size<'a>(
 ) -> Result<ReadSize<'a>, Stop>
     ensures { Gives got_size result (size_at turns (known_of known.now) lexemes.now) }
 {
-    match wanted(Mark::OpenBracket, lexemes) {
+    match next(Mark::OpenBracket, lexemes) {
         None => Err(Stop::Unread),
         Some((_, rest)) => {
             let x = cond(alloc, known, turns, 400, rest)?;
-            match wanted(Mark::CloseBracket, x.rest) {
+            match next(Mark::CloseBracket, x.rest) {
                 None => Err(Stop::Unread),
                 Some((_, after)) => match constant_value(known, &x.tree) {
                     None => Err(Stop::Unread),

@@ -7,14 +7,14 @@ ghost use Rattle.cx_cname.specs.Changes.{past};
 ghost use Rattle.cx_cdecl.specs.Reading.{got_value, value_at, enumerator_at, enumerators_at};
 ghost use Rattle.cx_cdecl.specs.Reading as spec;
 
-use crate::kinds::{Mark, wanted};
+
 use cx_base::List;
 use cx_cconst::constant_value;
 use cx_cexpr::{cond, named};
 use cx_cname::meaning::is_new;
 use cx_cname::{Change, add_constant};
 use cx_ctree::Unit;
-use cx_cword::{Lexeme, Stop};
+use cx_cword::{Lexeme, Mark, Stop};
 use std::alloc::Global;
 
 /// The value of an enumerator, and the lexemes after it.
@@ -41,7 +41,7 @@ fn value<'a>(
 ) -> Result<ReadValue<'a>, Stop>
     ensures { Gives got_value result (value_at turns (known_of known.now) next lexemes.now) }
 {
-    match wanted(Mark::Assign, lexemes) {
+    match cx_cword::next(Mark::Assign, lexemes) {
         None => Ok(ReadValue {
             value: next,
             rest: lexemes,
@@ -107,9 +107,9 @@ pub fn enumerators<'a>(
     'each: while n > 0 {
         n -= 1;
         let x = enumerator(alloc, known, changes, turns, next, rest)?;
-        match wanted(Mark::Comma, x.rest) {
+        match cx_cword::next(Mark::Comma, x.rest) {
             None => return Ok(x.rest),
-            Some((_, after)) => match wanted(Mark::CloseBrace, after) {
+            Some((_, after)) => match cx_cword::next(Mark::CloseBrace, after) {
                 Some((_, _)) => return Ok(after),
                 None => {
                     next = x.value + 1;

@@ -4,24 +4,9 @@ ghost use Rattle.std.specs.Prelude.{◌≡◌, option_map};
 ghost use Rattle.cx_cword.specs.Reading as lexeme;
 ghost use Rattle.cx_cdecl.specs.Declarations as grammar;
 ghost use Rattle.cx_cdecl.specs.Kinds as spec;
-ghost use Rattle.cx_cdecl.specs.Reading.{Wanted, said_tree};
+ghost use Rattle.cx_cdecl.specs.Reading.{said_tree};
 
-use cx_cword::{Keyword, Lexeme, LexemeKind, Punctuator, split};
-
-/// A punctuator that a reader waits for.
-#[derive(Clone, Copy, Debug, PartialEq, Eq)]
-pub enum Mark {
-    Star,
-    Comma,
-    Semicolon,
-    Assign,
-    OpenParen,
-    CloseParen,
-    OpenBracket,
-    CloseBracket,
-    OpenBrace,
-    CloseBrace,
-}
+use cx_cword::{Keyword, LexemeKind, Mark, Punctuator};
 
 /// What begins the words of a type.
 #[derive(Clone, Copy, Debug, PartialEq, Eq)]
@@ -54,71 +39,6 @@ pub struct Said {
     pub attributed: bool,
 }
 
-fn mark_by(mark: Punctuator) -> Option<Mark>
-    ensures { result ≡ spec.mark_by mark }
-{
-    match mark {
-        Punctuator::Star => Some(Mark::Star),
-        Punctuator::Comma => Some(Mark::Comma),
-        Punctuator::Semicolon => Some(Mark::Semicolon),
-        Punctuator::Assign => Some(Mark::Assign),
-        Punctuator::OpenParen => Some(Mark::OpenParen),
-        Punctuator::CloseParen => Some(Mark::CloseParen),
-        Punctuator::OpenBracket => Some(Mark::OpenBracket),
-        Punctuator::CloseBracket => Some(Mark::CloseBracket),
-        Punctuator::OpenBrace => Some(Mark::OpenBrace),
-        Punctuator::CloseBrace => Some(Mark::CloseBrace),
-        _ => None,
-    }
-}
-
-fn same_mark(a: Mark, b: Mark) -> bool
-    ensures { result ≡ spec.same_mark a b }
-{
-    match (a, b) {
-        (Mark::Star, Mark::Star) => true,
-        (Mark::Comma, Mark::Comma) => true,
-        (Mark::Semicolon, Mark::Semicolon) => true,
-        (Mark::Assign, Mark::Assign) => true,
-        (Mark::OpenParen, Mark::OpenParen) => true,
-        (Mark::CloseParen, Mark::CloseParen) => true,
-        (Mark::OpenBracket, Mark::OpenBracket) => true,
-        (Mark::CloseBracket, Mark::CloseBracket) => true,
-        (Mark::OpenBrace, Mark::OpenBrace) => true,
-        (Mark::CloseBrace, Mark::CloseBrace) => true,
-        _ => false,
-    }
-}
-
-/// Whether the lexeme is this mark.
-pub fn fits(mark: Mark, kind: LexemeKind) -> bool
-    ensures { result ≡ spec.fits mark kind }
-{
-    match kind {
-        LexemeKind::Punctuator(other) => match mark_by(other) {
-            None => false,
-            Some(other) => same_mark(mark, other),
-        },
-        _ => false,
-    }
-}
-
-/// The first lexeme, where it is this mark, and those after it.
-pub fn wanted(mark: Mark, lexemes: &[Lexeme]) -> Option<(Lexeme, &[Lexeme])>
-    ensures { Wanted mark result lexemes.now }
-{
-    match split(lexemes) {
-        None => None,
-        Some((o, rest)) => {
-            if fits(mark, o.kind) {
-                Some((o, rest))
-            } else {
-                None
-            }
-        }
-    }
-}
-
 pub fn nothing_said() -> Said
     ensures { said_tree result ≡ grammar.nothing_said }
 {
@@ -142,8 +62,8 @@ pub fn both_said(a: Said, b: Said) -> Said
 }
 
 /// What the word adds to what those before it say.
-fn word_said(word: Keyword, said: Said) -> Option<Said>
-    ensures { option_map said_tree result ≡ spec.word_said word (said_tree said) }
+fn also_said(word: Keyword, said: Said) -> Option<Said>
+    ensures { option_map said_tree result ≡ grammar.also_said word (said_tree said) }
 {
     match word {
         Keyword::Typedef => Some(Said {
@@ -169,7 +89,7 @@ pub fn also_says(kind: LexemeKind, said: Said) -> Option<Said>
     ensures { option_map said_tree result ≡ spec.also_says kind (said_tree said) }
 {
     match kind {
-        LexemeKind::Keyword(word) => word_said(word, said),
+        LexemeKind::Keyword(word) => also_said(word, said),
         _ => None,
     }
 }

@@ -58,11 +58,13 @@ pub struct TypeRead {
     pub next: usize,
 }
 
-/// A file has fewer tags: it has at most 2^24 bytes.
+/// A file has fewer tags: it has at most 2^24 bytes. The readers answer `NoMemory` where a unit has
+/// more.
 const MOST_TAGS: usize = 4000000000;
 
 /// Reads all of `tokens` as a declaration without a body. None exactly where they are none, and
-/// then, as after `NoMemory`, `known` is as it was.
+/// then, as after `NoMemory`, `known` is as it was. `NoMemory` also stands for more than 4,000,000,000
+/// tags in `known`.
 pub fn read_decl(
     alloc: Global,
     bytes: &[u8],
@@ -89,7 +91,7 @@ pub fn read_decl(
 
 /// Reads the words of a type with the words and attributes beside it, the longest derived front of
 /// the tokens from `at` on. None exactly where no front is derived, and then, as after `NoMemory`,
-/// `known` is as it was.
+/// `known` is as it was. `NoMemory` also stands for more than 4,000,000,000 tags in `known`.
 pub fn read_specs(
     alloc: Global,
     bytes: &[u8],
@@ -124,6 +126,7 @@ pub fn read_specs(
 
 /// Reads a declarator of the type `base`, the longest derived front of the tokens from `at` on.
 /// None exactly where no front is derived, and then, as after `NoMemory`, `known` is as it was.
+/// `NoMemory` also stands for more than 4,000,000,000 tags in `known`.
 pub fn read_declarator(
     alloc: Global,
     bytes: &[u8],
@@ -161,7 +164,8 @@ pub fn read_declarator(
 }
 
 /// Reads a type without a declaration, the longest derived front of the tokens from `at` on. None
-/// exactly where no front is derived.
+/// exactly where no front is derived. `NoMemory` also stands for more than 4,000,000,000 tags in
+/// `known`.
 pub fn read_type(
     alloc: Global,
     bytes: &[u8],

@@ -15,12 +15,12 @@ ghost use Rattle.cx_cdecl.specs.Reading as spec;
 use crate::attributes::beside;
 use crate::declarator::object;
 use crate::enumerator::enumerators;
-use crate::kinds::{Head, Mark, both_said, fits, head_of, name_of, nothing_said, wanted};
+use crate::kinds::{Head, both_said, head_of, name_of, nothing_said};
 use crate::specifier::{ReadSpecifier, ReadSpecs, place, plain};
 use cx_base::{CInt, List, NoMemory};
 use cx_cname::{Change, add_enumeration, is_complete, set_members};
 use cx_ctree::{CType, Member, Unit};
-use cx_cword::{Lexeme, Stop, split};
+use cx_cword::{Lexeme, Mark, Stop, fits, next, split};
 use std::alloc::Global;
 
 /// The members so far, and the lexemes after them.
@@ -80,7 +80,7 @@ fn member_names<'a>(
             return Err(Stop::Unread);
         }
         add_member(&mut members, x.name, x.ctype)?;
-        match wanted(Mark::Comma, x.rest) {
+        match next(Mark::Comma, x.rest) {
             None => {
                 return Ok(ReadMembers {
                     members,
@@ -135,7 +135,7 @@ fn listing_after<'a>(union_: Option<bool>, lexemes: &'a [Lexeme]) -> Option<Read
             }
             match name_of(o.kind) {
                 None => None,
-                Some(n) => match wanted(Mark::OpenBrace, rest) {
+                Some(n) => match next(Mark::OpenBrace, rest) {
                     None => None,
                     Some((_, after)) => Some(ReadListing {
                         union_,
@@ -192,7 +192,7 @@ fn enum_list<'a>(
     ensures items { known.new.items ≡ known.old.items }
 {
     let rest = enumerators(alloc, known, changes, turns, lexemes)?;
-    match wanted(Mark::CloseBrace, rest) {
+    match next(Mark::CloseBrace, rest) {
         None => Err(Stop::Unread),
         Some((_, after)) => {
             name_enum(known, changes, name)?;
@@ -220,7 +220,7 @@ fn members_in<'a>(
     ensures kept { past changes.new known.new ≡ past changes.old known.old }
     ensures items { known.new.items ≡ known.old.items }
 {
-    match wanted(Mark::CloseBrace, x.rest) {
+    match next(Mark::CloseBrace, x.rest) {
         None => Err(Stop::Unread),
         Some((_, after)) => {
             if !are_distinct(x.members.as_slice()) {
@@ -254,7 +254,7 @@ fn line_names<'a>(
         return Err(Stop::Unread);
     }
     let x = member_names(alloc, known, turns, &s.ctype, s.height, before, s.rest)?;
-    match wanted(Mark::Semicolon, x.rest) {
+    match next(Mark::Semicolon, x.rest) {
         None => Err(Stop::Unread),
         Some((_, after)) => Ok(ReadMembers {
             members: x.members,

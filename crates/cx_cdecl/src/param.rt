@@ -12,13 +12,13 @@ ghost use Rattle.cx_cdecl.specs.Reading.{got_sized, got_used, got_params, params
 ghost use Rattle.cx_cdecl.specs.Reading as spec;
 
 use crate::declarator::{ReadPointers, arrays, pointers, sized, sizes};
-use crate::kinds::{Mark, fits, is_tag_word, is_void, name_of, wanted};
+use crate::kinds::{is_tag_word, is_void, name_of};
 use crate::specifier::plain_specs;
 use cx_base::{List, NoMemory};
 use cx_cexpr::pointer_to;
 use cx_cname::{Change, is_complete, names_type};
 use cx_ctree::{CType, Param, Unit};
-use cx_cword::{Lexeme, Stop, split};
+use cx_cword::{Lexeme, Mark, Stop, fits, next, split};
 use std::alloc::{AllocError, Global};
 
 /// The type of a parameter, the names that its sizes use, and the lexemes after it.
@@ -164,9 +164,9 @@ fn param_size<'a>(
     requires { height ≡ type_path (type_tree x) }
     ensures { Gives got_sized result (param_size_at turns (known_of known.now) (type_tree x) lexemes.now) }
 {
-    match wanted(Mark::OpenBracket, lexemes) {
+    match next(Mark::OpenBracket, lexemes) {
         None => param_sized(alloc, known, turns, x, height, lexemes),
-        Some((_, rest)) => match wanted(Mark::CloseBracket, rest) {
+        Some((_, rest)) => match next(Mark::CloseBracket, rest) {
             None => param_sized(alloc, known, turns, x, height, lexemes),
             Some((_, after)) => param_open(alloc, known, turns, x, height, after),
         },
@@ -290,7 +290,7 @@ fn params<'a>(
         let q = param(alloc, known, changes, turns, rest)?;
         add_param(&mut params, q.param)?;
         add_names(&mut used, q.used.as_slice())?;
-        match wanted(Mark::Comma, q.rest) {
+        match next(Mark::Comma, q.rest) {
             None => {
                 return Ok(ReadParams {
                     params,

@@ -38,7 +38,7 @@ pub struct ReadSpecs<'a> {
     pub rest: &'a [Lexeme],
 }
 
-/// A place as a type holds it. No file has more tags than that.
+/// A place as a type holds it. No file has more tags than that: `NoMemory` stands for such a place.
 fn narrow(at: usize) -> Result<u32, Stop>
     ensures { Narrow at result }
 {

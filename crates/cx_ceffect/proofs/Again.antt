@@ -12,9 +12,8 @@ use Rattle.cx_cword.specs.declared.lexeme.Lexeme.{Lexeme}
 use Rattle.cx_cword.specs.declared.lexeme.LexemeKind.{LexemeKind}
 use Rattle.cx_cword.specs.Reading.{Is, IsName, name_of, first_of, past_of, span_of, span_between, ◌>>=◌, at_lexeme}
 use Rattle.cx_cname.specs.Known.{Known}
-use Rattle.cx_cexpr.specs.declared.kinds.Mark.TheVariants as mk
+use Rattle.cx_cword.specs.declared.mark.Mark.TheVariants as mk
 use Rattle.cx_cexpr.specs.Expressions.{IsCond, IsCast, no_cast, casted, IsUnary, no_prefix}
-use Rattle.cx_cexpr.specs.Kinds.{fits}
 use Rattle.cx_cexpr.specs.Reading.{Got, Few, named, named_by, wanted, begins_type, opens_type, enclosed_at, cond_at, unary_at}
 use Rattle.cx_cexpr.proofs.Spans.{first-append, past-append}
 use Rattle.cx_cexpr.proofs.Steps.{bind_some}
@@ -32,6 +31,7 @@ use Rattle.cx_ceffect.proofs.Parts.{starts_postfix}
 use Rattle.cx_ceffect.proofs.Values.{rest_from, cond_as_value, rest_stays}
 use Rattle.cx_ceffect.proofs.Follows.{Closed, Ended, ended_closed, closed_ends, closed_no_open, closes_other, continues_no_open, goes_on, Apart, goes_apart, update_mark, step_mark, starts_no_step, starts_no_close, name_no_step, calls_so, call_calls, calls_off, unary_no_call, cast_no_call, cond_no_call, postfix_starts, list_ends_by}
 use Rattle.cx_ceffect.proofs.Sound.{call_filled, rhs_filled, effects_filled}
+use Rattle.cx_cword.specs.Marks.{fits}
 
 -- ---- steps that are taken
 

@@ -12,9 +12,9 @@ use Rattle.cx_cword.specs.declared.lexeme.LexemeKind.{LexemeKind}
 use Rattle.cx_cword.specs.declared.lexeme.LexemeKind.TheVariants as l
 use Rattle.cx_cword.specs.Reading.{Is, IsName, name_of}
 use Rattle.cx_cname.specs.Known.{Known}
-use Rattle.cx_cexpr.specs.declared.kinds.Mark.TheVariants as mk
+use Rattle.cx_cword.specs.declared.mark.Mark.TheVariants as mk
 use Rattle.cx_cexpr.specs.declared.kinds.Head.TheVariants as h
-use Rattle.cx_cexpr.specs.Kinds.{fits, op_at, prefix_of, head_of}
+use Rattle.cx_cexpr.specs.Kinds.{op_at, prefix_of, head_of}
 use Rattle.cx_cexpr.specs.Reading.{Got}
 use Rattle.cx_cexpr.specs.Expressions.{op_of, IsCond, unconditional, conditional, IsBinary, operand, lower, joined, IsCast, no_cast, casted, IsUnary, no_prefix, prefixed, size_of_value, size_of_type, IsPostfix, no_suffix, indexed, member_of, member_at, IsPrimary, named, number, inside}
 use Rattle.cx_cexpr.proofs.Begins.{starts_by, starts_primary}
@@ -25,8 +25,9 @@ use Rattle.cx_ceffect.specs.Effects.{assigned_by, stepped_by, IsCall, call_alone
 use Rattle.cx_ceffect.specs.Kinds as kinds
 use Rattle.cx_ceffect.specs.Reading.{listed_by}
 use Rattle.cx_ceffect.specs.Kinds.{begins_postfix, after_mark, after_of, step_of, separator_of, opens, calls}
-use Rattle.cx_ceffect.proofs.Shapes.{open_is}
+use Rattle.cx_cword.proofs.Marks.{fits_is}
 use Rattle.cx_ceffect.proofs.Parts.{starts_postfix}
+use Rattle.cx_cword.specs.Marks.{fits}
 
 -- ---- what follows an effect
 
@@ -89,7 +90,7 @@ closes_other _ e = absurd cc
 
 open_binds : (kind : LexemeKind) (f : Bool) → fits mk.OpenParen kind ≡ f → binds kind ≤ 11 → f ≡ false
 open_binds kind false e h = refl
-open_binds kind true e h = let is : binds kind ≡ 12 = ap binds (open_is kind e) in absurd (omega (arith, is, h))
+open_binds kind true e h = let is : binds kind ≡ 12 = ap binds (fits_is mk.OpenParen kind e) in absurd (omega (arith, is, h))
 
 pub continues_no_open : (more rest : List Lexeme) → Continues 11 more → opens rest ≡ false → opens (more ++ rest) ≡ false
 continues_no_open [] rest on off = off
@@ -161,10 +162,8 @@ starts_no_step env _ e = refl
 
 pub starts_no_close : (env : Known) (kind : LexemeKind) → starts_by env kind ≡ true → fits mk.CloseParen kind ≡ false
 starts_no_close env (l.Punctuator p.CloseParen) e = absurd cc
-starts_no_close env (l.Punctuator p.OpenParen) e = refl
-starts_no_close env (l.Punctuator p.CloseBracket) e = refl
-starts_no_close env (l.Punctuator p.Question) e = refl
-starts_no_close env (l.Punctuator p.Colon) e = refl
+starts_no_close env (l.Keyword k.While) e = refl
+starts_no_close env (l.Keyword _) e = refl
 starts_no_close env _ e = refl
 
 pub name_no_step : (kind : LexemeKind) (n : ℕ) → name_of kind ≡ Some n → step_of kind ≡ None

@@ -6,28 +6,12 @@ use Rattle.cx_cword.specs.declared.word.Punctuator.{Punctuator}
 use Rattle.cx_cword.specs.declared.word.Punctuator.TheVariants as p
 use Rattle.cx_cword.specs.declared.lexeme.LexemeKind.{LexemeKind}
 use Rattle.cx_cword.specs.declared.lexeme.LexemeKind.TheVariants as l
-use Rattle.cx_cexpr.specs.declared.kinds.Mark.TheVariants as m
-use Rattle.cx_cexpr.specs.Kinds.{fits}
+use Rattle.cx_cword.specs.declared.mark.Mark.TheVariants as m
 use Rattle.cx_ceffect.specs.declared.kinds.After.TheVariants as after
 use Rattle.cx_ceffect.specs.declared.kinds.Separator.TheVariants as s
 use Rattle.cx_ceffect.specs.Effects.{assigned_by, stepped_by}
 use Rattle.cx_ceffect.specs.Kinds.{after_mark, after_of, step_of, separator_of}
-
-pub open_is : (kind : LexemeKind) → fits m.OpenParen kind ≡ true → kind ≡ l.Punctuator p.OpenParen
-open_is (l.Punctuator p.OpenParen) e = refl
-open_is (l.Punctuator p.CloseParen) e = absurd cc
-open_is (l.Punctuator p.CloseBracket) e = absurd cc
-open_is (l.Punctuator p.Question) e = absurd cc
-open_is (l.Punctuator p.Colon) e = absurd cc
-open_is _ e = absurd cc
-
-pub close_is : (kind : LexemeKind) → fits m.CloseParen kind ≡ true → kind ≡ l.Punctuator p.CloseParen
-close_is (l.Punctuator p.CloseParen) e = refl
-close_is (l.Punctuator p.OpenParen) e = absurd cc
-close_is (l.Punctuator p.CloseBracket) e = absurd cc
-close_is (l.Punctuator p.Question) e = absurd cc
-close_is (l.Punctuator p.Colon) e = absurd cc
-close_is _ e = absurd cc
+use Rattle.cx_cword.specs.Marks.{fits}
 
 pub separator_comma : (kind : LexemeKind) → separator_of kind ≡ s.Comma → kind ≡ l.Punctuator p.Comma
 separator_comma (l.Punctuator p.Comma) e = refl

@@ -10,9 +10,8 @@ use Rattle.cx_cword.specs.declared.word.Punctuator.TheVariants as p
 use Rattle.cx_cword.specs.declared.lexeme.Lexeme.{Lexeme}
 use Rattle.cx_cword.specs.Reading.{Is, IsName, first_of, past_of, span_of, span_between, ◌>>=◌, at_lexeme}
 use Rattle.cx_cname.specs.Known.{Known}
-use Rattle.cx_cexpr.specs.declared.kinds.Mark.TheVariants as m
+use Rattle.cx_cword.specs.declared.mark.Mark.TheVariants as m
 use Rattle.cx_cexpr.specs.Expressions.{IsCond, IsUnary}
-use Rattle.cx_cexpr.specs.Kinds.{fits}
 use Rattle.cx_cexpr.specs.Reading.{Got, wanted, opens_type, enclosed_at, cond_at, unary_at}
 use Rattle.cx_cexpr.proofs.Spans.{first-append, past-append, spanned}
 use Rattle.cx_cexpr.proofs.Steps.{bind_some, some_is, at_first, at_rest, pick, test_some, wanted_some, named_some, Found}
@@ -27,9 +26,11 @@ use Rattle.cx_ceffect.specs.Effects.{AreArguments, last_argument, also_argument,
 use Rattle.cx_ceffect.specs.Kinds.{after_of, step_of, separator_of, begins_postfix, calls}
 use Rattle.cx_ceffect.specs.Reading as reading
 use Rattle.cx_ceffect.specs.Reading.{argument_by, arguments_at, enclosed_arguments, called_at, call_at, cast_rhs_at, rhs_at, value_effect, call_effect, assigned_at, updated_at, stepped_at, value_at, after_by, after_at, plain_at, effect_by, effect_at, listed_by, effects_at}
-use Rattle.cx_ceffect.proofs.Shapes.{open_is, close_is, separator_comma, separator_close, step_is, after_assign, after_update, after_step}
+use Rattle.cx_ceffect.proofs.Shapes.{separator_comma, separator_close, step_is, after_assign, after_update, after_step}
+use Rattle.cx_cword.proofs.Marks.{fits_is}
 use Rattle.cx_ceffect.proofs.Parts.{begins_at, two_parts, two_ends, starts_postfix, postfix_front, unary_postfix}
 use Rattle.cx_ceffect.proofs.Values.{rest_from, cond_as_value}
+use Rattle.cx_cword.specs.Marks.{fits}
 
 -- ---- what begins with a lexeme and is not empty
 
@@ -152,7 +153,7 @@ module _ (env : Known) where
   arguments_found n d os g e =
       let a = at_first os (λ c rest. cond (fits m.CloseParen c.kind) (Some (record { tree = []; past = c.span.past; rest = rest })) (arguments_at env n d [] os)) g e in
       elim (pick (fits m.CloseParen a.0.kind) (Some (record { tree = []; past = a.0.span.past; rest = a.1 })) (arguments_at env n d [] os) g a.3) [
-        | inl q ↦ subst (λ (w : List Lexeme). FoundEnclosed d w g) (sym a.2) (enclosed_none d a.0 a.1 g (close_is a.0.kind q.0) q.1)
+        | inl q ↦ subst (λ (w : List Lexeme). FoundEnclosed d w g) (sym a.2) (enclosed_none d a.0 a.1 g (fits_is m.CloseParen a.0.kind q.0) q.1)
         | inr q ↦ enclosed_some d os g (arguments_sound n d [] os g q.1)
       ]
 
@@ -174,7 +175,7 @@ module _ (env : Known) where
       let a = named_some os (λ o v rest. wanted m.OpenParen rest (λ c after. enclosed_arguments env n d after >>= λ x. Some (called_at o.span.first v x))) g e in
       let b = wanted_some m.OpenParen a.2 (λ c after. enclosed_arguments env n d after >>= λ x. Some (called_at a.0.span.first a.1 x)) g a.5 in
       let c = bind_some (enclosed_arguments env n d b.1) (λ x. Some (called_at a.0.span.first a.1 x)) g b.4 in
-      subst (λ (w : List Lexeme). FoundCall env d w g) (sym (a.3 ∙ ap (λ (w : List Lexeme). a.0 ∷ w) b.2)) (found_call d a.1 a.0 b.0 b.1 c.0 g a.4 (open_is b.0.kind b.3) (arguments_found n d b.1 c.0 c.1) c.2)
+      subst (λ (w : List Lexeme). FoundCall env d w g) (sym (a.3 ∙ ap (λ (w : List Lexeme). a.0 ∷ w) b.2)) (found_call d a.1 a.0 b.0 b.1 c.0 g a.4 (fits_is m.OpenParen b.0.kind b.3) (arguments_found n d b.1 c.0 c.1) c.2)
 
   -- ---- right sides
 

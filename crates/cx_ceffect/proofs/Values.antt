@@ -4,10 +4,11 @@ use Rattle.cx_ctree.specs.Exprs.{ExprTree}
 use Rattle.cx_cword.specs.declared.lexeme.Lexeme.{Lexeme}
 use Rattle.cx_cword.specs.Reading.{◌>>=◌, at_lexeme}
 use Rattle.cx_cname.specs.Known.{Known}
-use Rattle.cx_cexpr.specs.declared.kinds.Mark.TheVariants as m
-use Rattle.cx_cexpr.specs.Kinds.{fits, op_at}
+use Rattle.cx_cword.specs.declared.mark.Mark.TheVariants as m
+use Rattle.cx_cexpr.specs.Kinds.{op_at}
 use Rattle.cx_cexpr.specs.Reading.{Got, opens_type, enclosed_at, cast_to, more_by, choice_by, cond_at, choice_at, binary_at, climb_at, more_at, cast_at, unary_at}
 use Rattle.cx_cexpr.proofs.Steps.{bind_some, some_is}
+use Rattle.cx_cword.specs.Marks.{fits}
 
 bind_assoc : {A B C : Type 0} (o : Option A) (f : A → Option B) (g : B → Option C) → ((o >>= f) >>= g) ≡ (o >>= λ x. f x >>= g)
 bind_assoc None f g = refl

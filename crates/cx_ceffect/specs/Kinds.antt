@@ -9,13 +9,13 @@ use Rattle.cx_cword.specs.declared.lexeme.Lexeme.{Lexeme}
 use Rattle.cx_cword.specs.declared.lexeme.LexemeKind.{LexemeKind}
 use Rattle.cx_cword.specs.declared.lexeme.LexemeKind.TheVariants as l
 use Rattle.cx_cword.specs.Reading.{name_of}
-use Rattle.cx_cexpr.specs.declared.kinds.Mark.TheVariants as m
-use Rattle.cx_cexpr.specs.Kinds.{fits}
+use Rattle.cx_cword.specs.declared.mark.Mark.TheVariants as m
 use Rattle.cx_ceffect.specs.declared.kinds.After.{After}
 use Rattle.cx_ceffect.specs.declared.kinds.After.TheVariants as after
 use Rattle.cx_ceffect.specs.declared.kinds.Separator.{Separator}
 use Rattle.cx_ceffect.specs.declared.kinds.Separator.TheVariants as s
 use Rattle.cx_ceffect.specs.Effects.{stepped_by}
+use Rattle.cx_cword.specs.Marks.{fits}
 
 -- what follows the left side of an effect
 abbrev pub after_mark : Punctuator → After

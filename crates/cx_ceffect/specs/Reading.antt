@@ -9,8 +9,7 @@ use Rattle.cx_cword.specs.declared.lexeme.Lexeme.{Lexeme}
 use Rattle.cx_cword.specs.declared.reading.Stop.{Stop}
 use Rattle.cx_cword.specs.Reading.{span_between, ◌>>=◌, at_lexeme}
 use Rattle.cx_cname.specs.Known.{Known}
-use Rattle.cx_cexpr.specs.declared.kinds.Mark.TheVariants as m
-use Rattle.cx_cexpr.specs.Kinds.{fits}
+use Rattle.cx_cword.specs.declared.mark.Mark.TheVariants as m
 use Rattle.cx_cexpr.specs.Reading.{Got, named, wanted, opens_type, enclosed_at, cond_at, choice_at, climb_at, unary_at}
 use Rattle.cx_ceffect.specs.declared.kinds.After.{After}
 use Rattle.cx_ceffect.specs.declared.kinds.After.TheVariants as after
@@ -23,6 +22,7 @@ use Rattle.cx_ceffect.specs.declared.make.ReadEffect.{ReadEffect}
 use Rattle.cx_ceffect.specs.declared.make.ReadEffects.{ReadEffects}
 use Rattle.cx_ceffect.specs.Effects.{one}
 use Rattle.cx_ceffect.specs.Kinds.{after_of, step_of, separator_of, begins_postfix, calls}
+use Rattle.cx_cword.specs.Marks.{fits}
 
 -- ---- what was read
 

@@ -1,10 +1,10 @@
 // What a lexeme can be at each place of an effect.
 
 ghost use Rattle.std.specs.Prelude.{◌≡◌};
-ghost use Rattle.cx_cexpr.specs.declared.kinds.Mark.TheVariants as m;
-ghost use Rattle.cx_cexpr.specs.Kinds.{fits};
+ghost use Rattle.cx_cword.specs.declared.mark.Mark.TheVariants as m;
 ghost use Rattle.cx_ceffect.specs.Effects as grammar;
 ghost use Rattle.cx_ceffect.specs.Kinds as spec;
+ghost use Rattle.cx_cword.specs.Marks.{fits};
 
 use cx_ctree::Binary;
 use cx_cword::{Keyword, LexemeKind, Punctuator};

@@ -16,9 +16,9 @@ use crate::make::{
     call_effect, called, higher, rhs_call, rhs_cast, rhs_value, stepped, updated, value_effect,
 };
 use cx_base::List;
-use cx_cexpr::{Mark, Read, choice, climb, cond, enclosed_type, named, opens_type, unary, wanted};
+use cx_cexpr::{Read, choice, climb, cond, enclosed_type, named, opens_type, unary};
 use cx_ctree::Unit;
-use cx_cword::{Lexeme, LexemeKind, Stop, split};
+use cx_cword::{Lexeme, LexemeKind, Mark, Stop, next, split};
 use std::alloc::Global;
 
 fn is_name(kind: LexemeKind) -> bool
@@ -137,7 +137,7 @@ pub fn call<'a>(
 {
     match named(lexemes) {
         None => Err(Stop::Unread),
-        Some((o, n, rest)) => match wanted(Mark::OpenParen, rest) {
+        Some((o, n, rest)) => match next(Mark::OpenParen, rest) {
             None => Err(Stop::Unread),
             Some((_, after)) => {
                 let x = enclosed(alloc, known, turns, left, after)?;

@@ -15,23 +15,25 @@ use Rattle.cx_cword.specs.declared.lexeme.Lexeme.{Lexeme}
 use Rattle.cx_cword.specs.declared.lexeme.LexemeKind.{LexemeKind}
 use Rattle.cx_cword.specs.Reading.{Is, IsWord, IsName, first_of, past_of, ◌>>=◌, at_lexeme}
 use Rattle.cx_cname.specs.Known.{Known}
-use Rattle.cx_cexpr.specs.declared.kinds.Mark.{Mark}
-use Rattle.cx_cexpr.specs.declared.kinds.Mark.TheVariants as m
+use Rattle.cx_cword.specs.declared.mark.Mark.{Mark}
+use Rattle.cx_cword.specs.declared.mark.Mark.TheVariants as m
 use Rattle.cx_cexpr.specs.declared.kinds.Head.{Head}
 use Rattle.cx_cexpr.specs.declared.kinds.Head.TheVariants as h
 use Rattle.cx_cexpr.specs.declared.kinds.Suffix.TheVariants as s
 use Rattle.cx_cexpr.specs.declared.kinds.Leaf.{Leaf}
 use Rattle.cx_cexpr.specs.declared.kinds.Leaf.TheVariants as leaf
 use Rattle.cx_cexpr.specs.Expressions.{untyped, IsType, IsCond, unconditional, conditional, IsBinary, operand, lower, joined, IsCast, no_cast, casted, IsUnary, no_prefix, prefixed, size_of_value, size_of_type, IsPostfix, no_suffix, indexed, member_of, member_at, IsPrimary, named, number, inside}
-use Rattle.cx_cexpr.specs.Kinds.{fits, op_at, head_of, with_prefix, suffix_of, with_member, leaf_of}
+use Rattle.cx_cexpr.specs.Kinds.{op_at, head_of, with_prefix, suffix_of, with_member, leaf_of}
 use Rattle.cx_cexpr.specs.Reading.{Got, Few, wanted, made, spelled, enclosed_at, begins_type, opens_type, leaf_by, indexed_at, suffixed_by, prefixed_at, unary_by, cast_to, joined_at, chosen_at, more_by, choice_by, cond_at, choice_at, binary_at, climb_at, more_at, cast_at, unary_at, size_at, suffix_at, primary_at, rest_at}
 use Rattle.cx_cexpr.specs.Reading as reading
 use Rattle.cx_cexpr.proofs.Turns.{climb_operand, climb_turn}
-use Rattle.cx_cexpr.proofs.Shapes.{punctuator_of, is_fit, is_op, prefixed_is, selector, name_leaf}
+use Rattle.cx_cexpr.proofs.Shapes.{is_op, prefixed_is, selector, name_leaf}
 use Rattle.cx_cexpr.proofs.Spans.{first-append, past-append}
 use Rattle.cx_cexpr.proofs.Begins.{starts_primary, primary_begins, cond_filled, binary_filled, cast_filled, unary_filled, primary_filled, unary_no_cast, begins-append, type_begins}
 use Rattle.cx_cexpr.proofs.TypeAgain.{got_of, enclosed_there}
 use Rattle.cx_cexpr.proofs.Ends.{binds, Ends, Continues, Ends-less, Continues-more, Continues-append, continues_ends, no_suffix_follows, other_op, no_question, op_level, op_continues, op_ends, mark_ends, question_ends}
+use Rattle.cx_cword.specs.Marks.{fits}
+use Rattle.cx_cword.proofs.Marks.{is_fit, kind_of}
 
 -- ---- steps that are taken
 
@@ -50,7 +52,7 @@ turn_left : (n : ℕ) → 0 < n → n ≡ suc (pred n)
 turn_left zero h = absurd (omega arith)
 turn_left (suc n) h = refl
 
-wanted_there : {A : Type 0} (mark : Mark) (c : Lexeme) (rest : List Lexeme) (go : Lexeme → List Lexeme → Option A) → Is (punctuator_of mark) c → wanted mark (c ∷ rest) go ≡ go c rest
+wanted_there : {A : Type 0} (mark : Mark) (c : Lexeme) (rest : List Lexeme) (go : Lexeme → List Lexeme → Option A) → c.kind ≡ kind_of mark → wanted mark (c ∷ rest) go ≡ go c rest
 wanted_there mark c rest go e = ap (λ (b : Bool). cond b (go c rest) None) (is_fit mark c.kind e)
 
 first_lead : (front lead more : List Lexeme) → front ≡ lead ++ more → 0 < length lead → first_of front ≡ first_of lead

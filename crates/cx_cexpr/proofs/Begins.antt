@@ -12,18 +12,19 @@ use Rattle.cx_cword.specs.declared.lexeme.LexemeKind.TheVariants as l
 use Rattle.cx_cname.specs.Known.{Known, names_type}
 use Rattle.cx_cexpr.specs.declared.kinds.Base.{Base}
 use Rattle.cx_cexpr.specs.declared.kinds.Base.TheVariants as base
-use Rattle.cx_cexpr.specs.declared.kinds.Mark.TheVariants as m
+use Rattle.cx_cword.specs.declared.mark.Mark.TheVariants as m
 use Rattle.cx_cexpr.specs.declared.kinds.Head.{Head}
 use Rattle.cx_cexpr.specs.declared.kinds.Head.TheVariants as h
 use Rattle.cx_cexpr.specs.declared.kinds.Leaf.{Leaf}
 use Rattle.cx_cexpr.specs.declared.kinds.Leaf.TheVariants as leaf
 use Rattle.cx_cexpr.specs.IntWords.{AreIntWords, counted, counts_of}
 use Rattle.cx_cexpr.specs.Expressions.{AreSkipped, no_skip, also_skip, tag_word, IsBase, void_word, int_words, type_name, tag_name, enum_name, IsType, type_base, type_pointer, IsCond, unconditional, conditional, IsBinary, operand, lower, joined, IsCast, no_cast, casted, IsUnary, no_prefix, prefixed, size_of_value, size_of_type, IsPostfix, no_suffix, indexed, member_of, member_at, IsPrimary, named, number, inside}
-use Rattle.cx_cexpr.specs.Kinds.{base_of, base_name, is_skipped, fits, fits_mark, mark_by, prefix_of, head_of, leaf_of, leaf_name}
+use Rattle.cx_cexpr.specs.Kinds.{base_of, base_name, is_skipped, prefix_of, head_of, leaf_of, leaf_name}
 use Rattle.cx_cexpr.specs.Reading.{begins_base, begins_by, begins_type, opens_type}
 use Rattle.cx_cexpr.proofs.Shapes.{name_base, tag_base, name_not_skipped, name_head, name_leaf, name_no_paren, prefixed_is, prefix_no_paren}
 use Rattle.cx_cexpr.proofs.Counting.{counted_some}
 use Rattle.cx_cexpr.proofs.Steps.{bind_some}
+use Rattle.cx_cword.specs.Marks.{fits}
 
 -- ---- what begins an expression
 

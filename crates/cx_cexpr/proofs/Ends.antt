@@ -9,11 +9,13 @@ use Rattle.cx_cword.specs.declared.lexeme.Lexeme.{Lexeme}
 use Rattle.cx_cword.specs.declared.lexeme.LexemeKind.{LexemeKind}
 use Rattle.cx_cword.specs.declared.lexeme.LexemeKind.TheVariants as l
 use Rattle.cx_cword.specs.Reading.{Is}
-use Rattle.cx_cexpr.specs.declared.kinds.Mark.TheVariants as m
+use Rattle.cx_cword.specs.declared.mark.Mark.TheVariants as m
 use Rattle.cx_cexpr.specs.declared.kinds.Suffix.{Suffix}
 use Rattle.cx_cexpr.specs.Expressions.{op_of}
-use Rattle.cx_cexpr.specs.Kinds.{fits, op_at, suffix_by, suffix_of}
-use Rattle.cx_cexpr.proofs.Shapes.{fits_is, op_is}
+use Rattle.cx_cexpr.specs.Kinds.{op_at, suffix_by, suffix_of}
+use Rattle.cx_cexpr.proofs.Shapes.{op_is}
+use Rattle.cx_cword.specs.Marks.{fits}
+use Rattle.cx_cword.proofs.Marks.{fits_is}
 
 abbrev pub binds_by : Option Suffix → Option (ℕ × Binary) → Bool → ℕ
 binds_by (Some s) f q = 0

@@ -14,57 +14,15 @@ use Rattle.cx_cword.specs.Reading.{name_of}
 use Rattle.cx_cexpr.specs.declared.kinds.IntWord.{IntWord}
 use Rattle.cx_cexpr.specs.declared.kinds.Base.TheVariants as base
 use Rattle.cx_cexpr.specs.declared.kinds.Tail.TheVariants as tail
-use Rattle.cx_cexpr.specs.declared.kinds.Mark.{Mark}
-use Rattle.cx_cexpr.specs.declared.kinds.Mark.TheVariants as m
+use Rattle.cx_cword.specs.declared.mark.Mark.{Mark}
+use Rattle.cx_cword.specs.declared.mark.Mark.TheVariants as m
 use Rattle.cx_cexpr.specs.declared.kinds.Prefix.{Prefix}
 use Rattle.cx_cexpr.specs.declared.kinds.Head.TheVariants as h
 use Rattle.cx_cexpr.specs.declared.kinds.Suffix.TheVariants as s
 use Rattle.cx_cexpr.specs.declared.kinds.Leaf.TheVariants as leaf
 use Rattle.cx_cexpr.specs.Expressions.{op_of, prefixed_by, tag_word}
-use Rattle.cx_cexpr.specs.Kinds.{int_word, word_of, base_int, base_word, base_name, base_of, is_skipped, tail_of, mark_by, same_mark, fits_mark, fits, op_at, prefix_of, head_of, with_prefix, suffix_of, leaf_name, leaf_of}
-
--- ---- marks
-
-abbrev pub punctuator_of : Mark → Punctuator
-punctuator_of m.OpenParen = p.OpenParen
-punctuator_of m.CloseParen = p.CloseParen
-punctuator_of m.CloseBracket = p.CloseBracket
-punctuator_of m.Question = p.Question
-punctuator_of m.Colon = p.Colon
-
-mark_is : (q : Punctuator) (n : Mark) → mark_by q ≡ Some n → punctuator_of n ≡ q
-mark_is p.OpenParen n e = let f : m.OpenParen ≡ n = cc in ap punctuator_of (sym f)
-mark_is p.CloseParen n e = let f : m.CloseParen ≡ n = cc in ap punctuator_of (sym f)
-mark_is p.CloseBracket n e = let f : m.CloseBracket ≡ n = cc in ap punctuator_of (sym f)
-mark_is p.Question n e = let f : m.Question ≡ n = cc in ap punctuator_of (sym f)
-mark_is p.Colon n e = let f : m.Colon ≡ n = cc in ap punctuator_of (sym f)
-mark_is _ n e = absurd cc
-
-mark_same : (a b : Mark) → same_mark a b ≡ true → a ≡ b
-mark_same m.OpenParen m.OpenParen e = refl
-mark_same m.CloseParen m.CloseParen e = refl
-mark_same m.CloseBracket m.CloseBracket e = refl
-mark_same m.Question m.Question e = refl
-mark_same m.Colon m.Colon e = refl
-mark_same _ _ e = absurd cc
-
-fits_by : (mark : Mark) (q : Punctuator) (o : Option Mark) → mark_by q ≡ o → fits_mark mark o ≡ true → q ≡ punctuator_of mark
-fits_by mark q None is e = absurd cc
-fits_by mark q (Some n) is e = sym (mark_is q n is) ∙ ap punctuator_of (sym (mark_same mark n e))
-
-pub fits_is : (mark : Mark) (kind : LexemeKind) → fits mark kind ≡ true → kind ≡ l.Punctuator (punctuator_of mark)
-fits_is mark (l.Punctuator q) e = ap l.Punctuator (fits_by mark q (mark_by q) refl e)
-fits_is mark _ e = absurd cc
-
-same_self : (mark : Mark) → fits mark (l.Punctuator (punctuator_of mark)) ≡ true
-same_self m.OpenParen = refl
-same_self m.CloseParen = refl
-same_self m.CloseBracket = refl
-same_self m.Question = refl
-same_self m.Colon = refl
-
-pub is_fit : (mark : Mark) (kind : LexemeKind) → kind ≡ l.Punctuator (punctuator_of mark) → fits mark kind ≡ true
-is_fit mark kind e = ap (fits mark) e ∙ same_self mark
+use Rattle.cx_cexpr.specs.Kinds.{int_word, word_of, base_int, base_word, base_name, base_of, is_skipped, tail_of, op_at, prefix_of, head_of, with_prefix, suffix_of, leaf_name, leaf_of}
+use Rattle.cx_cword.specs.Marks.{fits}
 
 -- ---- types
 
@@ -211,7 +169,7 @@ prefixed_is p.Star x y e = (_, refl, (cc))
 prefixed_is p.Ampersand x y e = (_, refl, (cc))
 prefixed_is _ x y e = absurd cc
 
-pub prefix_no_paren : (mark : Punctuator) (f : Prefix) → prefix_of mark ≡ h.Prefix f → fits_mark m.OpenParen (mark_by mark) ≡ false
+pub prefix_no_paren : (mark : Punctuator) (f : Prefix) → prefix_of mark ≡ h.Prefix f → fits m.OpenParen (l.Punctuator mark) ≡ false
 prefix_no_paren p.OpenParen f e = absurd cc
 prefix_no_paren p.CloseParen f e = refl
 prefix_no_paren p.CloseBracket f e = refl

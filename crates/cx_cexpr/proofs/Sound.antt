@@ -12,7 +12,7 @@ use Rattle.cx_cword.specs.declared.word.Punctuator.TheVariants as p
 use Rattle.cx_cword.specs.declared.lexeme.Lexeme.{Lexeme}
 use Rattle.cx_cword.specs.Reading.{Is, IsWord, IsName, first_of, past_of, ◌>>=◌}
 use Rattle.cx_cname.specs.Known.{Known, names_type}
-use Rattle.cx_cexpr.specs.declared.kinds.Mark.TheVariants as m
+use Rattle.cx_cword.specs.declared.mark.Mark.TheVariants as m
 use Rattle.cx_cexpr.specs.declared.kinds.Head.{Head}
 use Rattle.cx_cexpr.specs.declared.kinds.Head.TheVariants as h
 use Rattle.cx_cexpr.specs.declared.kinds.Prefix.{Prefix}
@@ -21,14 +21,16 @@ use Rattle.cx_cexpr.specs.declared.kinds.Suffix.TheVariants as s
 use Rattle.cx_cexpr.specs.declared.kinds.Leaf.{Leaf}
 use Rattle.cx_cexpr.specs.declared.kinds.Leaf.TheVariants as leaf
 use Rattle.cx_cexpr.specs.Expressions.{untyped, IsCond, unconditional, conditional, IsBinary, operand, lower, joined, IsCast, no_cast, casted, IsUnary, no_prefix, prefixed, size_of_value, size_of_type, IsPostfix, no_suffix, indexed, member_of, member_at, IsPrimary, named, number, inside}
-use Rattle.cx_cexpr.specs.Kinds.{fits, op_at, head_of, with_prefix, suffix_of, with_member, leaf_of}
+use Rattle.cx_cexpr.specs.Kinds.{op_at, head_of, with_prefix, suffix_of, with_member, leaf_of}
 use Rattle.cx_cexpr.specs.Reading.{Got, wanted, made, spelled, enclosed_at, opens_type, leaf_by, indexed_at, suffixed_by, prefixed_at, unary_by, cast_to, joined_at, chosen_at, more_by, choice_by, cond_at, choice_at, binary_at, climb_at, more_at, cast_at, unary_at, size_at, suffix_at, primary_at, rest_at}
 use Rattle.cx_cexpr.specs.Reading as reading
-use Rattle.cx_cexpr.proofs.Shapes.{fits_is, op_is, head_prefix, head_size, suffix_index, suffix_member, leaf_named, leaf_open, leaf_number}
+use Rattle.cx_cexpr.proofs.Shapes.{op_is, head_prefix, head_size, suffix_index, suffix_member, leaf_named, leaf_open, leaf_number}
 use Rattle.cx_cexpr.proofs.Spans.{first-append, past-append}
 use Rattle.cx_cexpr.proofs.Steps.{bind_some, some_is, at_first, at_rest, pick, wanted_some, named_some, Found, built}
 use Rattle.cx_cexpr.proofs.TypeSound.{Enclosed, enclosed_sound}
 use Rattle.cx_cexpr.proofs.Begins.{cond_filled, binary_filled, cast_filled, unary_filled, postfix_filled}
+use Rattle.cx_cword.specs.Marks.{fits}
+use Rattle.cx_cword.proofs.Marks.{fits_is}
 
 abbrev pub FoundExpr : (List Lexeme → ExprTree → Type 0) → ℕ → List Lexeme → Got ExprTree → Type 0
 FoundExpr Spells d whole g = Found expr_path Spells d whole g

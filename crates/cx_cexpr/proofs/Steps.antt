@@ -9,11 +9,11 @@ use Rattle.cx_ctree.specs.Path.{type_path, expr_path}
 use Rattle.cx_base.specs.declared.span.Span.{Span}
 use Rattle.cx_cword.specs.declared.lexeme.Lexeme.{Lexeme}
 use Rattle.cx_cword.specs.Reading.{name_of, IsName, first_of, past_of, ◌>>=◌, at_lexeme}
-use Rattle.cx_cexpr.specs.declared.kinds.Mark.{Mark}
+use Rattle.cx_cword.specs.declared.mark.Mark.{Mark}
 use Rattle.cx_cexpr.specs.Expressions.{untyped}
-use Rattle.cx_cexpr.specs.Kinds.{fits}
 use Rattle.cx_cexpr.specs.Reading.{Got, wanted, named, named_by, made, low_type, spelled}
 use Rattle.cx_cexpr.proofs.Spans.{spanned}
+use Rattle.cx_cword.specs.Marks.{fits}
 
 pub bind_some : {A B : Type 0} (o : Option A) (f : A → Option B) (y : B) → (o >>= f) ≡ Some y → (x : A) × (o ≡ Some x) × (f x ≡ Some y)
 bind_some (Some x) f y e = (x, refl, e)

@@ -6,9 +6,10 @@ use Rattle.cx_ctree.specs.Exprs.{ExprTree}
 use Rattle.cx_cword.specs.declared.lexeme.Lexeme.{Lexeme}
 use Rattle.cx_cword.specs.Reading.{◌>>=◌, at_lexeme}
 use Rattle.cx_cname.specs.Known.{Known}
-use Rattle.cx_cexpr.specs.declared.kinds.Mark.TheVariants as m
-use Rattle.cx_cexpr.specs.Kinds.{fits, op_at, head_of, suffix_of, leaf_of}
+use Rattle.cx_cword.specs.declared.mark.Mark.TheVariants as m
+use Rattle.cx_cexpr.specs.Kinds.{op_at, head_of, suffix_of, leaf_of}
 use Rattle.cx_cexpr.specs.Reading.{Got, enclosed_at, opens_type, leaf_by, suffixed_by, unary_by, size_of_type, size_of_value, cast_to, more_by, choice_by, cond_at, choice_at, binary_at, climb_at, more_at, cast_at, unary_at, size_at, suffix_at, primary_at}
+use Rattle.cx_cword.specs.Marks.{fits}
 
 -- an operand is read where the tree may have one more node
 pub operand_left : {A : Type 0} (d : ℕ) (o : Option A) → 0 < d → cond (nat_eq d 0) None o ≡ o

@@ -16,7 +16,7 @@ use Rattle.cx_cword.specs.Reading.{Is, IsName, past_of, ◌>>=◌}
 use Rattle.cx_cname.specs.Known.{Known, tag_place, HasKind, names_enum}
 use Rattle.cx_cexpr.specs.declared.kinds.Tail.{Tail}
 use Rattle.cx_cexpr.specs.declared.kinds.Tail.TheVariants as tail
-use Rattle.cx_cexpr.specs.declared.kinds.Mark.TheVariants as m
+use Rattle.cx_cword.specs.declared.mark.Mark.TheVariants as m
 use Rattle.cx_cexpr.specs.IntWords.{Counts, no_word, counted, counts_of, is_listed, AreIntWords}
 use Rattle.cx_cexpr.specs.Expressions.{AreSkipped, no_skip, also_skip, tag_word, IsBase, void_word, int_words, type_name, tag_name, enum_name, IsType, type_base, type_pointer}
 use Rattle.cx_cexpr.specs.Kinds.{word_of, base_of, is_skipped, tail_of}
@@ -24,12 +24,13 @@ use Rattle.cx_cexpr.specs.Reading.{Got, Few, low_type, wanted, skip_at, words_at
 use Rattle.cx_cexpr.specs.Reading as reading
 use Rattle.cx_cexpr.proofs.Lows.{low_type_low, tail_turn}
 use Rattle.cx_cexpr.proofs.IntWords.{skip_none, skip_more, skip_stops}
-use Rattle.cx_cexpr.proofs.Shapes.{is_fit, word_base, name_base, tag_base, name_not_skipped}
+use Rattle.cx_cexpr.proofs.Shapes.{word_base, name_base, tag_base, name_not_skipped}
 use Rattle.cx_cexpr.proofs.Spans.{past-append, past_from, past_from-cons, past_after}
 use Rattle.cx_cexpr.proofs.Steps.{bind_some}
 use Rattle.cx_cexpr.proofs.Counting.{counted_some, counted_by}
 use Rattle.cx_cexpr.proofs.Counted.{words_read, NoWord, words_end, words_less, int_same}
 use Rattle.cx_cexpr.proofs.TypeSound.{base_filled}
+use Rattle.cx_cword.proofs.Marks.{is_fit}
 
 abbrev pub got_of : {A : Type 0} → List Lexeme → A → List Lexeme → Got A
 got_of front t rest = record { tree = t; past = past_of front; rest = rest }

@@ -13,18 +13,20 @@ use Rattle.cx_cexpr.specs.declared.kinds.Base.{Base}
 use Rattle.cx_cexpr.specs.declared.kinds.Base.TheVariants as base
 use Rattle.cx_cexpr.specs.declared.kinds.Tail.{Tail}
 use Rattle.cx_cexpr.specs.declared.kinds.Tail.TheVariants as tail
-use Rattle.cx_cexpr.specs.declared.kinds.Mark.TheVariants as m
+use Rattle.cx_cword.specs.declared.mark.Mark.TheVariants as m
 use Rattle.cx_base.specs.declared.number.CInt.{CInt}
 use Rattle.cx_cexpr.specs.IntWords.{no_word, AreIntWords}
 use Rattle.cx_cexpr.specs.Expressions.{AreSkipped, no_skip, also_skip, IsBase, void_word, int_words, type_name, tag_name, enum_name, IsType, type_base, type_pointer}
-use Rattle.cx_cexpr.specs.Kinds.{base_of, is_skipped, tail_of, fits}
+use Rattle.cx_cexpr.specs.Kinds.{base_of, is_skipped, tail_of}
 use Rattle.cx_cexpr.specs.Reading.{Got, low_type, wanted, named, skip_at, words_at, with_word, same_kind, kind_fits, tag_by, tag_at, enum_at, typedef_by, base_by, base_at, tail_by, tail_at, type_at, enclosed_at}
 use Rattle.cx_cexpr.specs.Reading as reading
 use Rattle.cx_cexpr.proofs.IntWords.{first_listed}
-use Rattle.cx_cexpr.proofs.Shapes.{fits_is, skipped_is, tail_star, tail_skipped, base_word_is, base_void, base_enum, base_tag, base_named}
+use Rattle.cx_cexpr.proofs.Shapes.{skipped_is, tail_star, tail_skipped, base_word_is, base_void, base_enum, base_tag, base_named}
 use Rattle.cx_cexpr.proofs.Spans.{past-append, past_from, past_from-cons}
 use Rattle.cx_cexpr.proofs.Steps.{bind_some, some_is, at_first, test_some, wanted_some, named_some, low_type_some, Found}
 use Rattle.cx_cexpr.proofs.Counting.{counted_by, words_sound, int_of_words}
+use Rattle.cx_cword.specs.Marks.{fits}
+use Rattle.cx_cword.proofs.Marks.{fits_is}
 
 -- ---- words that are passed over
 

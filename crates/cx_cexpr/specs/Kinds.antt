@@ -16,8 +16,6 @@ use Rattle.cx_cexpr.specs.declared.kinds.Base.{Base}
 use Rattle.cx_cexpr.specs.declared.kinds.Base.TheVariants as base
 use Rattle.cx_cexpr.specs.declared.kinds.Tail.{Tail}
 use Rattle.cx_cexpr.specs.declared.kinds.Tail.TheVariants as tail
-use Rattle.cx_cexpr.specs.declared.kinds.Mark.{Mark}
-use Rattle.cx_cexpr.specs.declared.kinds.Mark.TheVariants as m
 use Rattle.cx_cexpr.specs.declared.kinds.Prefix.{Prefix}
 use Rattle.cx_cexpr.specs.declared.kinds.Prefix.TheVariants as prefix
 use Rattle.cx_cexpr.specs.declared.kinds.Head.{Head}
@@ -72,33 +70,6 @@ abbrev pub tail_of : LexemeKind → Tail
 tail_of (l.Keyword k.Skipped) = tail.Skipped
 tail_of (l.Punctuator p.Star) = tail.Star
 tail_of _ = tail.Other
-
--- ---- marks
-
-abbrev pub mark_by : Punctuator → Option Mark
-mark_by p.OpenParen = Some m.OpenParen
-mark_by p.CloseParen = Some m.CloseParen
-mark_by p.CloseBracket = Some m.CloseBracket
-mark_by p.Question = Some m.Question
-mark_by p.Colon = Some m.Colon
-mark_by _ = None
-
-abbrev pub same_mark : Mark → Mark → Bool
-same_mark m.OpenParen m.OpenParen = true
-same_mark m.CloseParen m.CloseParen = true
-same_mark m.CloseBracket m.CloseBracket = true
-same_mark m.Question m.Question = true
-same_mark m.Colon m.Colon = true
-same_mark _ _ = false
-
-abbrev pub fits_mark : Mark → Option Mark → Bool
-fits_mark mark None = false
-fits_mark mark (Some other) = same_mark mark other
-
--- the lexeme is this mark
-abbrev pub fits : Mark → LexemeKind → Bool
-fits mark (l.Punctuator p) = fits_mark mark (mark_by p)
-fits mark _ = false
 
 -- ---- expressions
 

@@ -20,8 +20,8 @@ use Rattle.cx_cexpr.specs.declared.kinds.Base.{Base}
 use Rattle.cx_cexpr.specs.declared.kinds.Base.TheVariants as base
 use Rattle.cx_cexpr.specs.declared.kinds.Tail.{Tail}
 use Rattle.cx_cexpr.specs.declared.kinds.Tail.TheVariants as tail
-use Rattle.cx_cexpr.specs.declared.kinds.Mark.{Mark}
-use Rattle.cx_cexpr.specs.declared.kinds.Mark.TheVariants as m
+use Rattle.cx_cword.specs.declared.mark.Mark.{Mark}
+use Rattle.cx_cword.specs.declared.mark.Mark.TheVariants as m
 use Rattle.cx_cexpr.specs.declared.kinds.Prefix.{Prefix}
 use Rattle.cx_cexpr.specs.declared.kinds.Head.{Head}
 use Rattle.cx_cexpr.specs.declared.kinds.Head.TheVariants as h
@@ -35,7 +35,8 @@ use Rattle.cx_cexpr.specs.declared.words.Words.{Words}
 use Rattle.cx_cexpr.specs.declared.words.ReadWords.{ReadWords}
 use Rattle.cx_cexpr.specs.declared.words.Passed.{Passed}
 use Rattle.cx_cexpr.specs.IntWords.{Counts, no_word, is_listed}
-use Rattle.cx_cexpr.specs.Kinds.{word_of, base_of, is_skipped, tail_of, fits, op_at, head_of, with_prefix, suffix_of, with_member, leaf_of}
+use Rattle.cx_cexpr.specs.Kinds.{word_of, base_of, is_skipped, tail_of, op_at, head_of, with_prefix, suffix_of, with_member, leaf_of}
+use Rattle.cx_cword.specs.Marks.{fits}
 
 -- what was read, the place past its last lexeme, and the lexemes after it
 pub record Got (A : Type 0) : Type 0 where
@@ -67,15 +68,6 @@ made d x past rest = if nat_le (expr_path x) d then Some (record { tree = x; pas
 -- the lexeme that is wanted, and then
 abbrev pub wanted : {A : Type 0} → Mark → List Lexeme → (Lexeme → List Lexeme → Option A) → Option A
 wanted mark os go = at_lexeme os None (λ o rest. if fits mark o.kind then go o rest else None)
-
-abbrev pub Unwanted : Mark → List Lexeme → Type 0
-Unwanted mark [] = Unit {0}
-Unwanted mark (o ∷ os) = fits mark o.kind ≡ false
-
--- the first lexeme, where it is this mark, and those after it
-abbrev pub Wanted : Mark → Option (Lexeme × Bor (List Lexeme)) → List Lexeme → Type 0
-Wanted mark None os = Unwanted mark os
-Wanted mark (Some p) os = (os ≡ p.0 ∷ p.1.now) × (fits mark p.0.kind ≡ true)
 
 -- a name, and then
 abbrev pub named_by : {A : Type 0} → (ℕ → List Lexeme → Option A) → List Lexeme → Option ℕ → Option A

@@ -4,7 +4,7 @@ ghost use Rattle.std.specs.Prelude.{◌≡◌};
 ghost use Rattle.cx_cword.specs.Reading.{name_of};
 ghost use Rattle.cx_cexpr.specs.Expressions as grammar;
 ghost use Rattle.cx_cexpr.specs.Kinds as spec;
-ghost use Rattle.cx_cexpr.specs.Reading.{Wanted, Named};
+ghost use Rattle.cx_cexpr.specs.Reading.{Named};
 
 use cx_base::CInt;
 use cx_ctree::{Binary, Unary};
@@ -39,16 +39,6 @@ pub enum Tail {
     Star,
     Skipped,
     Other,
-}
-
-/// A punctuator that a reader waits for.
-#[derive(Clone, Copy, Debug, PartialEq, Eq)]
-pub enum Mark {
-    OpenParen,
-    CloseParen,
-    CloseBracket,
-    Question,
-    Colon,
 }
 
 /// A unary operator in front of an operand (C11 6.5.3).
@@ -169,44 +159,6 @@ pub fn tail_of(kind: LexemeKind) -> Tail
     }
 }
 
-fn mark_by(mark: Punctuator) -> Option<Mark>
-    ensures { result ≡ spec.mark_by mark }
-{
-    match mark {
-        Punctuator::OpenParen => Some(Mark::OpenParen),
-        Punctuator::CloseParen => Some(Mark::CloseParen),
-        Punctuator::CloseBracket => Some(Mark::CloseBracket),
-        Punctuator::Question => Some(Mark::Question),
-        Punctuator::Colon => Some(Mark::Colon),
-        _ => None,
-    }
-}
-
-fn same_mark(a: Mark, b: Mark) -> bool
-    ensures { result ≡ spec.same_mark a b }
-{
-    match a {
-        Mark::OpenParen => matches!(b, Mark::OpenParen),
-        Mark::CloseParen => matches!(b, Mark::CloseParen),
-        Mark::CloseBracket => matches!(b, Mark::CloseBracket),
-        Mark::Question => matches!(b, Mark::Question),
-        Mark::Colon => matches!(b, Mark::Colon),
-    }
-}
-
-/// Whether the lexeme is this mark.
-pub fn fits(mark: Mark, kind: LexemeKind) -> bool
-    ensures { result ≡ spec.fits mark kind }
-{
-    match kind {
-        LexemeKind::Punctuator(p) => match mark_by(p) {
-            None => false,
-            Some(m) => same_mark(mark, m),
-        },
-        _ => false,
-    }
-}
-
 fn op_of(mark: Punctuator) -> Option<(u8, Binary)>
     ensures { result ≡ grammar.op_of mark }
 {
@@ -304,22 +256,6 @@ pub fn leaf_of(kind: LexemeKind) -> Leaf
         LexemeKind::Name(n) | LexemeKind::Attributive(n) => leaf_name(n),
         LexemeKind::Punctuator(Punctuator::OpenParen) => Leaf::Open,
         _ => Leaf::Other,
-    }
-}
-
-/// The first lexeme, where it is this mark, and those after it.
-pub fn wanted(mark: Mark, lexemes: &[Lexeme]) -> Option<(Lexeme, &[Lexeme])>
-    ensures { Wanted mark result lexemes.now }
-{
-    match split(lexemes) {
-        None => None,
-        Some((o, rest)) => {
-            if fits(mark, o.kind) {
-                Some((o, rest))
-            } else {
-                None
-            }
-        }
     }
 }
 

@@ -7,7 +7,7 @@ mod read;
 mod types;
 mod words;
 
-pub use kinds::{Mark, named, wanted};
+pub use kinds::named;
 pub use make::{Read, ReadType, pointer_to};
 pub use read::{binary, cast, choice, climb, cond, cond_rest, unary};
 pub use types::{base_type, begins_type, enclosed_type, opens_type, type_name};

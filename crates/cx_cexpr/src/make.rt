@@ -10,10 +10,10 @@ ghost use Rattle.cx_cexpr.specs.Kinds.{with_prefix, with_member};
 ghost use Rattle.cx_cexpr.specs.Reading.{got, got_type, low_type, made, Measured, MeasuredType, spelled, size_of_type, size_of_value, cast_to, joined_at, chosen_at, prefixed_at, indexed_at, member_at};
 ghost use Rattle.cx_cexpr.specs.Reading as spec;
 
-use crate::kinds::{Mark, Prefix, named, wanted};
+use crate::kinds::{Prefix, named};
 use cx_base::{CInt, Span};
 use cx_ctree::{Binary, CType, Expr, ExprKind};
-use cx_cword::{Lexeme, Stop, span_between};
+use cx_cword::{Lexeme, Mark, Stop, next, span_between};
 use std::alloc::{AllocError, Global};
 
 /// An expression that was read: its tree, how many nodes its longest path has, the place past its
@@ -313,7 +313,7 @@ pub fn indexed<'a>(
     ensures value { Gives got result (indexed_at left first (got x.entry) (got y.entry)) }
     ensures measured { Measured left result }
 {
-    match wanted(Mark::CloseBracket, y.rest) {
+    match next(Mark::CloseBracket, y.rest) {
         None => Err(Stop::Unread),
         Some((c, rest)) => {
             let height = higher(x.height, y.height) + 1;

@@ -5,7 +5,7 @@ ghost use Rattle.cx_cword.specs.Reading.{Gives};
 ghost use Rattle.cx_cname.specs.Known.{known_of};
 ghost use Rattle.cx_cexpr.specs.Reading.{got, Measured, cond_at, choice_at, binary_at, climb_at, more_at, cast_at, unary_at, size_at, suffix_at, primary_at, rest_at};
 
-use crate::kinds::{Head, Leaf, Mark, Suffix, fits, head_of, leaf_of, op_at, suffix_of, wanted};
+use crate::kinds::{Head, Leaf, Suffix, head_of, leaf_of, op_at, suffix_of};
 use crate::make::{
     Read, cast_to, chosen, indexed, joined, made, member, name, number, prefixed, size_of_type,
     size_of_value,
@@ -13,7 +13,7 @@ use crate::make::{
 use crate::types::{enclosed_type, opens_type};
 use cx_cname::names_type;
 use cx_ctree::Unit;
-use cx_cword::{Lexeme, Stop, split};
+use cx_cword::{Lexeme, Mark, Stop, fits, next, split};
 use std::alloc::Global;
 
 /// A conditional expression (C11 6.5.15). `turns` bounds the calls: 16 for each lexeme and 5 more
@@ -68,7 +68,7 @@ pub fn choice<'a>(
             if fits(Mark::Question, o.kind) {
                 let below = left.saturating_sub(1);
                 let y = cond(alloc, known, turns - 1, below, rest)?;
-                match wanted(Mark::Colon, y.rest) {
+                match next(Mark::Colon, y.rest) {
                     None => Err(Stop::Unread),
                     Some((_, after)) => {
                         let z = cond(alloc, known, turns - 1, below, after)?;
@@ -345,7 +345,7 @@ fn primary<'a>(
             }
             Leaf::Open => {
                 let x = cond(alloc, known, turns - 1, left, rest)?;
-                match wanted(Mark::CloseParen, x.rest) {
+                match next(Mark::CloseParen, x.rest) {
                     None => Err(Stop::Unread),
                     Some((c, after)) => Ok(Read {
                         past: c.span.past,

@@ -10,12 +10,12 @@ ghost use Rattle.cx_cexpr.specs.IntWords as words;
 ghost use Rattle.cx_cexpr.specs.Reading.{got_type, MeasuredType, base_at, tail_at, type_at, enclosed_at, tag_at, enum_at, typedef_by, low_type, int_words, words_at};
 ghost use Rattle.cx_cexpr.specs.Reading as spec;
 
-use crate::kinds::{Base, IntWord, Mark, Tail, base_of, fits, is_skipped, named, tail_of, wanted};
+use crate::kinds::{Base, IntWord, Tail, base_of, is_skipped, named, tail_of};
 use crate::make::{ReadType, low_type, pointer_to};
 use crate::words::{int_of, no_word, read_words, signed_int, skipped, with_word};
 use cx_cname::{is_union, names_enum, names_type, tag_place, typedef_of};
 use cx_ctree::{CType, Unit};
-use cx_cword::{Lexeme, Stop, split};
+use cx_cword::{Lexeme, Mark, Stop, fits, next, split};
 use std::alloc::Global;
 
 /// How many nodes the longest path of the type has.
@@ -235,11 +235,11 @@ pub fn enclosed_type<'a>(
     ensures value { Gives got_type result (enclosed_at (known_of known.now) left lexemes.now) }
     ensures measured { MeasuredType left result }
 {
-    match wanted(Mark::OpenParen, lexemes) {
+    match next(Mark::OpenParen, lexemes) {
         None => Err(Stop::Unread),
         Some((_, rest)) => {
             let x = type_name(alloc, known, left, rest)?;
-            match wanted(Mark::CloseParen, x.rest) {
+            match next(Mark::CloseParen, x.rest) {
                 None => Err(Stop::Unread),
                 Some((c, after)) => Ok(ReadType {
                     past: c.span.past,

@@ -16,8 +16,6 @@ use Rattle.cx_cword.specs.declared.lexeme.LexemeKind.TheVariants as l
 use Rattle.cx_cword.specs.Reading.{Is, IsWord, name_of}
 use Rattle.cx_cname.specs.Known.{Known}
 use Rattle.cx_cexpr.specs.declared.kinds.IntWord.{IntWord}
-use Rattle.cx_cexpr.specs.declared.kinds.Mark.TheVariants as mk
-use Rattle.cx_cexpr.specs.Kinds as expr_kinds
 use Rattle.cx_cexpr.specs.Kinds.{word_of}
 use Rattle.cx_cexpr.specs.Expressions.{tag_word, IsBase, void_word, int_words, type_name, tag_name, enum_name}
 use Rattle.cx_cexpr.specs.Reading.{begins_by, begins_type}
@@ -28,13 +26,14 @@ use Rattle.cx_ceffect.proofs.Follows.{calls_so, calls_off}
 use Rattle.cx_cdecl.specs.Declarations.{Beside, also_said, AreBeside, none_beside, word_beside, attributes_beside, ArePointers, no_star, also_star, IsObject, object_of, IsSpecifier, declared_before, new_tag, tag_members, members_alone, enum_named, enum_alone, AreSpecs, specs}
 use Rattle.cx_cdecl.proofs.BesideThere.{attributes_there}
 use Rattle.cx_cdecl.proofs.SpecsThere.{first_counted}
-use Rattle.cx_cstmt.specs.declared.kinds.Mark.TheVariants as m
+use Rattle.cx_cword.specs.declared.mark.Mark.TheVariants as m
 use Rattle.cx_cstmt.specs.declared.kinds.Head.{Head}
 use Rattle.cx_cstmt.specs.declared.kinds.Head.TheVariants as h
-use Rattle.cx_cstmt.specs.Kinds.{fits, head_of, label_of, is_label, begins_label, is_storage, begins_local}
+use Rattle.cx_cstmt.specs.Kinds.{head_of, label_of, is_label, begins_label, is_storage, begins_local}
 use Rattle.cx_cstmt.specs.Statements.{IsVariable, variable, initialised, AreVariables, last_variable, also_variable, IsLocal, local, AreInitEffects, last_init, also_init, IsLabel, case_label, default_label, AreLabels, last_label, also_label, IsStmt, block_stmt, empty_stmt, effect_stmt, if_stmt, if_else_stmt, while_stmt, do_stmt, for_stmt, switch_stmt, break_stmt, continue_stmt, return_stmt}
 use Rattle.cx_cstmt.proofs.Steps.{lacks}
 use Rattle.cx_cstmt.proofs.Goes.{three_parts}
+use Rattle.cx_cword.specs.Marks.{fits}
 
 and_false : (a : Bool) → (a && false) ≡ false
 and_false true = refl
@@ -160,13 +159,14 @@ label_no_brace (o ∷ os) e = ap not (label_brace o.kind e)
 -- ---- declarations
 
 -- no parenthesis stands before a declarator
-name_no_open : (kind : LexemeKind) (n : ℕ) → name_of kind ≡ Some n → expr_kinds.fits mk.OpenParen kind ≡ false
-name_no_open (l.Punctuator q) n e = absurd cc
-name_no_open _ n e = refl
+name_no_open : (kind : LexemeKind) (n : ℕ) → name_of kind ≡ Some n → fits m.OpenParen kind ≡ false
+name_no_open (l.Name v) n e = refl
+name_no_open (l.Attributive v) n e = refl
+name_no_open _ n e = absurd cc
 
 pointers_opens : {t w : TypeTree} {a : List Lexeme} → ArePointers t a w → (rest : List Lexeme) → opens rest ≡ false → opens (a ++ rest) ≡ false
 pointers_opens no_star rest e = e
-pointers_opens (also_star {a = a} {c = c} o h is skips) rest e = ap opens (append_assoc a (o ∷ c) rest) ∙ pointers_opens h (o ∷ (c ++ rest)) (ap (expr_kinds.fits mk.OpenParen) is)
+pointers_opens (also_star {a = a} {c = c} o h is skips) rest e = ap opens (append_assoc a (o ∷ c) rest) ∙ pointers_opens h (o ∷ (c ++ rest)) (ap (fits m.OpenParen) is)
 
 object_opens : {env : Known} {t v : TypeTree} {a : List Lexeme} {n : ℕ} {o : Lexeme} → IsObject env t a n o v → (rest : List Lexeme) → opens (a ++ rest) ≡ false
 object_opens (object_of {a = a} {c = c} o n h is g low) rest = ap opens (append_assoc a (o ∷ c) rest) ∙ pointers_opens h (o ∷ (c ++ rest)) (name_no_open o.kind n is)
@@ -179,12 +179,17 @@ pub variables_opens : {env : Known} {t : TypeTree} {a : List Lexeme} {ss : StmtT
 variables_opens (last_variable h) rest = variable_opens h rest
 variables_opens (also_variable {a = a} {c = c} o h is hs) rest = ap opens (append_assoc a (o ∷ c) rest) ∙ variable_opens h (o ∷ (c ++ rest))
 
+word_no_open : (w : Keyword) → fits m.OpenParen (l.Keyword w) ≡ false
+word_no_open k.While = refl
+word_no_open k.Else = refl
+word_no_open _ = refl
+
 beside_opens : {a : List Lexeme} {s : Beside} → AreBeside a s → (rest : List Lexeme) → opens rest ≡ false → opens (a ++ rest) ≡ false
 beside_opens none_beside rest e = e
-beside_opens (word_beside o w is h f) rest e = ap (expr_kinds.fits mk.OpenParen) is
+beside_opens (word_beside o w is h f) rest e = ap (fits m.OpenParen) is ∙ word_no_open w
 beside_opens (attributes_beside {a = a} {os = os} i j) rest e =
     let f = attributes_there i in
-    ap (λ (v : List Lexeme). opens ((v ++ os) ++ rest)) f.parts ∙ ap (expr_kinds.fits mk.OpenParen) f.is
+    ap (λ (v : List Lexeme). opens ((v ++ os) ++ rest)) f.parts ∙ ap (fits m.OpenParen) f.is
 
 -- a lexeme that begins a declaration ends nothing
 record Declares (kind : LexemeKind) : Type 0 where

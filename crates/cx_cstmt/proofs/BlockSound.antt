@@ -12,7 +12,7 @@ use Rattle.cx_cword.specs.Reading.{Is, ◌>>=◌}
 use Rattle.cx_cname.specs.Known.{Known}
 use Rattle.cx_cexpr.proofs.Spans.{past-append, spanned}
 use Rattle.cx_cexpr.proofs.Steps.{bind_some}
-use Rattle.cx_cstmt.specs.declared.kinds.Mark.TheVariants as m
+use Rattle.cx_cword.specs.declared.mark.Mark.TheVariants as m
 use Rattle.cx_cstmt.specs.declared.kinds.Head.{Head}
 use Rattle.cx_cstmt.specs.Kinds.{head_of}
 use Rattle.cx_cstmt.specs.Statements as grammar

@@ -8,7 +8,7 @@ use Rattle.cx_cword.specs.declared.lexeme.Lexeme.{Lexeme}
 use Rattle.cx_cword.specs.Reading.{Is, past_of}
 use Rattle.cx_cname.specs.Known.{Known}
 use Rattle.cx_cdecl.proofs.Grows.{Fits}
-use Rattle.cx_cstmt.specs.declared.kinds.Mark.TheVariants as m
+use Rattle.cx_cword.specs.declared.mark.Mark.TheVariants as m
 use Rattle.cx_cstmt.specs.Statements as grammar
 use Rattle.cx_cstmt.specs.Statements.{block_stmt, AreBlockItems}
 use Rattle.cx_cstmt.specs.Reading.{stmt_at, block_at}

@@ -8,12 +8,12 @@ use Rattle.cx_cword.specs.declared.lexeme.Lexeme.{Lexeme}
 use Rattle.cx_cword.specs.Reading.{first_of, past_of}
 use Rattle.cx_cname.specs.Known.{Known}
 use Rattle.cx_cdecl.proofs.Follows.{not_true}
-use Rattle.cx_cstmt.specs.declared.kinds.Mark.{Mark}
-use Rattle.cx_cstmt.specs.Kinds.{fits}
+use Rattle.cx_cword.specs.declared.mark.Mark.{Mark}
 use Rattle.cx_cstmt.specs.Statements as grammar
 use Rattle.cx_cstmt.specs.Reading.{Got, made, spelled, next}
-use Rattle.cx_cstmt.proofs.Shapes.{kind_of, is_fit}
 use Rattle.cx_cstmt.proofs.Steps.{lacks}
+use Rattle.cx_cword.specs.Marks.{fits}
+use Rattle.cx_cword.proofs.Marks.{is_fit, kind_of}
 
 pub next_goes : {A : Type 0} (mark : Mark) (o : Lexeme) (rest : List Lexeme) (other : Option A) (go : Lexeme → List Lexeme → Option A) → o.kind ≡ kind_of mark → next mark (o ∷ rest) other go ≡ go o rest
 next_goes mark o rest other go is = ap (λ (b : Bool). cond b (go o rest) other) (is_fit mark o.kind is)

@@ -20,7 +20,7 @@ use Rattle.cx_cexpr.proofs.Sound.{cond_sound}
 use Rattle.cx_ceffect.specs.Effects.{IsEffect}
 use Rattle.cx_ceffect.specs.Reading.{effect_at, effects_at}
 use Rattle.cx_ceffect.proofs.Sound.{FoundEffect, effect_filled, effect_sound, effects_sound}
-use Rattle.cx_cstmt.specs.declared.kinds.Mark.TheVariants as m
+use Rattle.cx_cword.specs.declared.mark.Mark.TheVariants as m
 use Rattle.cx_cstmt.specs.declared.kinds.Label.{Label}
 use Rattle.cx_cstmt.specs.declared.kinds.Label.TheVariants as label
 use Rattle.cx_cstmt.specs.Kinds.{label_of, begins_label, begins_local}
@@ -224,12 +224,12 @@ module _ (env : Known) where
   ]
 
   -- a condition or steps, with the mark after them
-  pub record FoundPart {A : Type 0} (Spells : List Lexeme → A → Type 0) (mark : Rattle.cx_cstmt.specs.declared.kinds.Mark.Mark) (whole : List Lexeme) (g : After A) : Type 0 where
+  pub record FoundPart {A : Type 0} (Spells : List Lexeme → A → Type 0) (mark : Rattle.cx_cword.specs.declared.mark.Mark.Mark) (whole : List Lexeme) (g : After A) : Type 0 where
     pub front : List Lexeme
     pub close : Lexeme
     pub parts : whole ≡ front ++ close ∷ g.rest
     pub so : Spells front g.tree
-    pub is : close.kind ≡ Rattle.cx_cstmt.proofs.Shapes.kind_of mark
+    pub is : close.kind ≡ Rattle.cx_cword.proofs.Marks.kind_of mark
 
   test_sound : (n d : ℕ) (os : List Lexeme) (g : After (Option ExprTree)) → test_at env n d os ≡ Some g → FoundPart (IsCondition env) m.Semicolon os g
   unfolding test_at

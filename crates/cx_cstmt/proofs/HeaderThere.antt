@@ -25,8 +25,8 @@ use Rattle.cx_ceffect.proofs.Sound.{effect_filled}
 use Rattle.cx_ceffect.proofs.Again.{effect_there, effects_there}
 use Rattle.cx_cdecl.proofs.Follows.{bind_goes, Room}
 use Rattle.cx_cdecl.proofs.Grows.{Fits, fits_few, fits_after}
-use Rattle.cx_cstmt.specs.declared.kinds.Mark.TheVariants as m
-use Rattle.cx_cstmt.specs.Kinds.{fits, label_of, begins_label, begins_local}
+use Rattle.cx_cword.specs.declared.mark.Mark.TheVariants as m
+use Rattle.cx_cstmt.specs.Kinds.{label_of, begins_label, begins_local}
 use Rattle.cx_cstmt.specs.Statements.{IsLabel, case_label, default_label, AreLabels, last_label, also_label, AreInitEffects, last_init, also_init, IsInit, init_local, init_nothing, init_effects, IsCondition, no_condition, some_condition, AreSteps, no_step, some_steps, all_of}
 use Rattle.cx_cstmt.specs.Statements as grammar
 use Rattle.cx_cstmt.specs.Reading.{Got, listed, After, Header, made, next, push, spelled, test_path, enclosed_at, label_by, label_at, labels_at, local_at, init_effects_at, init_ends, init_at, test_at, steps_at, header_at}
@@ -37,6 +37,7 @@ use Rattle.cx_cstmt.proofs.Goes.{next_goes, next_other, made_goes, stmt_got}
 use Rattle.cx_cstmt.proofs.Begins.{starts_acting, effects_acting, init_effects_acting, labels_begin, local_declaring}
 use Rattle.cx_cstmt.proofs.LocalThere.{local_there}
 use Rattle.cx_cstmt.proofs.Growing.{init_grows}
+use Rattle.cx_cword.specs.Marks.{fits}
 
 -- ---- expressions in parentheses
 

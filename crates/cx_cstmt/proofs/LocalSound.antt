@@ -16,7 +16,7 @@ use Rattle.cx_cdecl.specs.Reading.{Named, Specs, object_at, plain_specs_at}
 use Rattle.cx_cdecl.specs.Reading as decl
 use Rattle.cx_cdecl.proofs.DeclaratorSound.{ObjectFront, object_sound}
 use Rattle.cx_cdecl.proofs.SpecsSound.{plain_specs_sound, plain_unlisted}
-use Rattle.cx_cstmt.specs.declared.kinds.Mark.TheVariants as m
+use Rattle.cx_cword.specs.declared.mark.Mark.TheVariants as m
 use Rattle.cx_cstmt.specs.Statements.{IsVariable, variable, initialised, AreVariables, last_variable, also_variable, IsLocal, local, all_of}
 use Rattle.cx_cstmt.specs.Reading.{Got, listed, next, push, declared_at, variable_at, variables_at, is_plain, local_by, local_at}
 use Rattle.cx_cstmt.proofs.Steps.{made_some, Marked, next_some, next_cases, two_parts, both_parts, all_push, all_last}

@@ -16,8 +16,6 @@ use Rattle.cx_cexpr.proofs.TypeAgain.{got_of}
 use Rattle.cx_ceffect.specs.Reading.{rhs_at}
 use Rattle.cx_ceffect.proofs.Follows.{closes, Closed}
 use Rattle.cx_ceffect.proofs.Again.{rhs_there}
-use Rattle.cx_cdecl.specs.declared.kinds.Mark.TheVariants as dm
-use Rattle.cx_cdecl.specs.Kinds as decl_kinds
 use Rattle.cx_cdecl.specs.Declarations.{Beside}
 use Rattle.cx_cdecl.specs.Reading.{Named, Specs, object_at, plain_specs_at}
 use Rattle.cx_cdecl.specs.Reading as decl
@@ -26,27 +24,27 @@ use Rattle.cx_cdecl.proofs.Follows.{no_mark, ends_type, bind_goes, Room}
 use Rattle.cx_cdecl.proofs.Grows.{Fits, fits_few, fits_after, fits_less}
 use Rattle.cx_cdecl.proofs.Growing.{specs_grow}
 use Rattle.cx_cdecl.proofs.MembersThere.{object_begins, specs_tree, specs_filled, plain_specs_there}
-use Rattle.cx_cstmt.specs.declared.kinds.Mark.TheVariants as m
-use Rattle.cx_cstmt.specs.Kinds.{fits}
+use Rattle.cx_cword.specs.declared.mark.Mark.TheVariants as m
 use Rattle.cx_cstmt.specs.Statements.{IsVariable, variable, initialised, AreVariables, last_variable, also_variable, IsLocal, local, all_of}
 use Rattle.cx_cstmt.specs.Reading.{Got, listed, next, push, declared_at, variable_at, variables_at, is_plain, local_by, local_at}
 use Rattle.cx_cstmt.proofs.Turns.{variables_turn}
 use Rattle.cx_cstmt.proofs.Steps.{lacks, all_push, all_last}
 use Rattle.cx_cstmt.proofs.Goes.{next_goes, next_other, made_goes, three_parts}
+use Rattle.cx_cword.specs.Marks.{fits}
 
 -- ---- variables
 
 -- what follows a variable: a comma or a semicolon
 record Behind (rest : List Lexeme) : Type 0 where
   closed : Closed rest
-  bracket : no_mark dm.OpenBracket rest ≡ true
+  bracket : no_mark m.OpenBracket rest ≡ true
   assign : lacks m.Assign rest ≡ true
 
 comma_behind : (o : Lexeme) (rest : List Lexeme) → Is p.Comma o → Behind (o ∷ rest)
-comma_behind o rest e = record { closed = ap closes e; bracket = ap (λ (kind : LexemeKind). not (decl_kinds.fits dm.OpenBracket kind)) e; assign = ap (λ (kind : LexemeKind). not (fits m.Assign kind)) e }
+comma_behind o rest e = record { closed = ap closes e; bracket = ap (λ (kind : LexemeKind). not (fits m.OpenBracket kind)) e; assign = ap (λ (kind : LexemeKind). not (fits m.Assign kind)) e }
 
 semicolon_behind : (o : Lexeme) (rest : List Lexeme) → Is p.Semicolon o → Behind (o ∷ rest)
-semicolon_behind o rest e = record { closed = ap closes e; bracket = ap (λ (kind : LexemeKind). not (decl_kinds.fits dm.OpenBracket kind)) e; assign = ap (λ (kind : LexemeKind). not (fits m.Assign kind)) e }
+semicolon_behind o rest e = record { closed = ap closes e; bracket = ap (λ (kind : LexemeKind). not (fits m.OpenBracket kind)) e; assign = ap (λ (kind : LexemeKind). not (fits m.Assign kind)) e }
 
 abbrev variable_got : Known → StmtTree → List Lexeme → Got StmtTree
 variable_got env s rest = record { tree = s; known = env; past = 0; rest = rest }
@@ -86,7 +84,7 @@ module _ (env : Known) where
       let parts : (a ++ e ∷ c) ++ rest ≡ a ++ e ∷ (c ++ rest) = append_assoc a (e ∷ c) rest in
       let whole = ap length parts in
       let long = length-append a (e ∷ (c ++ rest)) in
-      let bracket : no_mark dm.OpenBracket (e ∷ (c ++ rest)) ≡ true = ap (λ (kind : LexemeKind). not (decl_kinds.fits dm.OpenBracket kind)) is in
+      let bracket : no_mark m.OpenBracket (e ∷ (c ++ rest)) ≡ true = ap (λ (kind : LexemeKind). not (fits m.OpenBracket kind)) is in
       ap (variable_at env n d t) parts
       ∙ named_goes n d t (a ++ e ∷ (c ++ rest)) (e ∷ (c ++ rest)) v o w (object_there env few h n (e ∷ (c ++ rest)) bracket (omega (arith, room, whole))) off
       ∙ set_goes n d c rest v o e w r is (rhs_there env few q n (d - 1) rest ends.closed (omega (arith, room, whole, long)) (omega (arith, low))) low

@@ -17,17 +17,18 @@ use Rattle.cx_cexpr.proofs.Spans.{first-append, past-append, spanned}
 use Rattle.cx_cexpr.proofs.Steps.{bind_some, some_is, at_first, pick}
 use Rattle.cx_ceffect.specs.Reading.{rhs_at, effect_at}
 use Rattle.cx_ceffect.proofs.Sound.{effect_filled, rhs_sound, effect_sound}
-use Rattle.cx_cstmt.specs.declared.kinds.Mark.TheVariants as m
+use Rattle.cx_cword.specs.declared.mark.Mark.TheVariants as m
 use Rattle.cx_cstmt.specs.declared.kinds.Head.{Head}
 use Rattle.cx_cstmt.specs.declared.kinds.Head.TheVariants as h
 use Rattle.cx_cstmt.specs.Kinds.{head_of, begins_label, ends_group, begins_local}
 use Rattle.cx_cstmt.specs.Statements as grammar
 use Rattle.cx_cstmt.specs.Statements.{no_result, some_result, all_of, some_stmt, some_group, IsStmt, block_stmt, empty_stmt, effect_stmt, if_stmt, if_else_stmt, while_stmt, do_stmt, for_stmt, switch_stmt, break_stmt, continue_stmt, return_stmt, AreBlockItems, no_item, local_item, stmt_item, AreStmts, no_more, more, AreGroups, no_groups, last_group, also_groups}
 use Rattle.cx_cstmt.specs.Reading.{Got, listed, After, Header, Reader, made, spelled, next, push, push_group, enclosed_at, labels_at, local_at, header_at, else_after, if_after, while_after, do_ends, do_after, for_after, switch_ends, switch_after, block_ends, jump_at, return_at, effect_stmt_at, stmt_by, item_by, stmt_at, items_at, stmts_at, groups_at}
-use Rattle.cx_cstmt.proofs.Shapes.{is_fit, head_block, head_empty, head_if, head_while, head_do, head_for, head_switch, head_break, head_continue, head_return}
+use Rattle.cx_cstmt.proofs.Shapes.{head_block, head_empty, head_if, head_while, head_do, head_for, head_switch, head_break, head_continue, head_return}
 use Rattle.cx_cstmt.proofs.Steps.{made_some, Marked, next_some, lacks, next_cases, begins_at, two_parts, both_parts, two_ends, all_push, all_none, all_assoc, all_groups, groups_push, groups_none}
 use Rattle.cx_cstmt.proofs.LocalSound.{FoundLocal, local_sound}
 use Rattle.cx_cstmt.proofs.HeaderSound.{Enclosed, enclosed_sound, FoundLabels, labels_sound, FoundHeader, header_sound}
+use Rattle.cx_cword.proofs.Marks.{is_fit}
 
 module _ (earlier : List DeclTree) where
   pub stmt_filled : {env known : Known} {f : Bool} {a : List Lexeme} {s : StmtTree} → IsStmt earlier env f a s known → 0 < length a

@@ -10,11 +10,11 @@ use Rattle.cx_cword.specs.Reading.{first_of, past_of}
 use Rattle.cx_cname.specs.Known.{Known}
 use Rattle.cx_cexpr.proofs.Spans.{first-append, past-append}
 use Rattle.cx_cexpr.proofs.Steps.{at_first, test_some, some_is}
-use Rattle.cx_cstmt.specs.declared.kinds.Mark.{Mark}
-use Rattle.cx_cstmt.specs.Kinds.{fits}
+use Rattle.cx_cword.specs.declared.mark.Mark.{Mark}
 use Rattle.cx_cstmt.specs.Statements.{all_of}
 use Rattle.cx_cstmt.specs.Reading.{Got, made, next, push, push_group}
-use Rattle.cx_cstmt.proofs.Shapes.{kind_of, fits_is}
+use Rattle.cx_cword.specs.Marks.{fits}
+use Rattle.cx_cword.proofs.Marks.{fits_is, kind_of}
 
 pub made_some : (d : ℕ) (x : StmtTree) (env : Known) (past : ℕ) (rest : List Lexeme) (g : Got StmtTree) → made d x env past rest ≡ Some g → (stmt_path x ≤ d) × (◌≡◌ {A = Got StmtTree} (record { tree = x; known = env; past = past; rest = rest }) g)
 unfolding made

@@ -13,14 +13,15 @@ use Rattle.cx_cname.specs.Known.{Known}
 use Rattle.cx_cexpr.specs.Reading as expr
 use Rattle.cx_ceffect.specs.Reading.{rhs_at, effect_at}
 use Rattle.cx_cdecl.proofs.Follows.{not_true, bind_goes}
-use Rattle.cx_cstmt.specs.declared.kinds.Mark.TheVariants as m
+use Rattle.cx_cword.specs.declared.mark.Mark.TheVariants as m
 use Rattle.cx_cstmt.specs.declared.kinds.Head.{Head}
-use Rattle.cx_cstmt.specs.Kinds.{fits, head_of, label_of, is_label, begins_label, ends_group, begins_local}
+use Rattle.cx_cstmt.specs.Kinds.{head_of, label_of, is_label, begins_label, ends_group, begins_local}
 use Rattle.cx_cstmt.specs.Statements as grammar
 use Rattle.cx_cstmt.specs.Reading.{Got, listed, After, Header, Reader, made, spelled, next, push, push_group, enclosed_at, labels_at, local_at, header_at, else_after, if_after, while_after, do_ends, do_after, for_after, switch_ends, switch_after, block_ends, jump_at, return_at, effect_stmt_at, stmt_by, item_by, stmt_at, items_at, stmts_at, groups_at}
 use Rattle.cx_cstmt.proofs.Turns.{stmt_turn, items_turn, stmts_turn, groups_turn}
 use Rattle.cx_cstmt.proofs.Steps.{lacks}
 use Rattle.cx_cstmt.proofs.Goes.{next_goes, next_other, stmt_got, built}
+use Rattle.cx_cword.specs.Marks.{fits}
 
 -- ---- readers of what stands in a statement
 

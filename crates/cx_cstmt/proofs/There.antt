@@ -17,9 +17,8 @@ use Rattle.cx_ceffect.proofs.Follows.{closes}
 use Rattle.cx_ceffect.proofs.Sound.{effect_filled}
 use Rattle.cx_ceffect.proofs.Again.{rhs_there, effect_there}
 use Rattle.cx_cdecl.proofs.Grows.{Fits, fits_few, fits_after, fits_less}
-use Rattle.cx_cstmt.specs.declared.kinds.Mark.TheVariants as m
+use Rattle.cx_cword.specs.declared.mark.Mark.TheVariants as m
 use Rattle.cx_cstmt.specs.declared.kinds.Head.TheVariants as h
-use Rattle.cx_cstmt.specs.Kinds as kinds
 use Rattle.cx_cstmt.specs.Kinds.{head_of, label_of, is_label, begins_label, ends_group}
 use Rattle.cx_cstmt.specs.Statements as grammar
 use Rattle.cx_cstmt.specs.Statements.{IsResult, no_result, some_result, all_of, some_stmt, some_group, IsStmt, block_stmt, empty_stmt, effect_stmt, if_stmt, if_else_stmt, while_stmt, do_stmt, for_stmt, switch_stmt, break_stmt, continue_stmt, return_stmt, AreBlockItems, no_item, local_item, stmt_item, AreStmts, no_more, more, AreGroups, no_groups, last_group, also_groups}
@@ -32,6 +31,7 @@ use Rattle.cx_cstmt.proofs.Growing.{init_grows, local_grows, stmt_grows, stmts_g
 use Rattle.cx_cstmt.proofs.LocalThere.{local_there}
 use Rattle.cx_cstmt.proofs.HeaderThere.{enclosed_there, labels_there, header_there}
 use Rattle.cx_cstmt.proofs.StmtGoes.{inner_at, within_at, cases_at, stmt_head, if_goes, else_goes, while_goes, do_goes, for_goes, switch_goes, block_goes, jump_goes, return_goes, return_alone, effect_goes, ends_stmts, items_end, items_local, items_stmt, stmts_end, stmts_more, groups_end, groups_more}
+use Rattle.cx_cword.specs.Marks as marks
 
 -- ---- what follows a statement
 
@@ -39,7 +39,7 @@ or_true : (a : Bool) → (a || true) ≡ true
 or_true true = refl
 or_true false = refl
 
-ending_other : (kind : LexemeKind) → ends_group kind ≡ true → kinds.fits m.Else kind ≡ false
+ending_other : (kind : LexemeKind) → ends_group kind ≡ true → marks.fits m.Else kind ≡ false
 ending_other (l.Keyword k.Else) e = absurd cc
 ending_other (l.Punctuator p.CloseBrace) e = refl
 ending_other _ e = refl
@@ -50,10 +50,10 @@ ends_no_else (o ∷ os) e = ap not (ending_other o.kind e)
 
 label_ends : (os : List Lexeme) → begins_label os ≡ true → ends_stmts os ≡ true
 label_ends [] e = absurd cc
-label_ends (o ∷ os) e = ap (λ (b : Bool). kinds.fits m.CloseBrace o.kind || b) e ∙ or_true (kinds.fits m.CloseBrace o.kind)
+label_ends (o ∷ os) e = ap (λ (b : Bool). marks.fits m.CloseBrace o.kind || b) e ∙ or_true (marks.fits m.CloseBrace o.kind)
 
 brace_no_else : (c : Lexeme) (rest : List Lexeme) → Is p.CloseBrace c → lacks m.Else (c ∷ rest) ≡ true
-brace_no_else c rest is = ap (λ (kind : LexemeKind). not (kinds.fits m.Else kind)) is
+brace_no_else c rest is = ap (λ (kind : LexemeKind). not (marks.fits m.Else kind)) is
 
 items_no_else : {earlier : List DeclTree} {env known : Known} {a : List Lexeme} {ss : StmtTrees} → AreBlockItems earlier env a ss known → (c : Lexeme) (rest : List Lexeme) → Is p.CloseBrace c → lacks m.Else (a ++ c ∷ rest) ≡ true
 items_no_else no_item c rest is = brace_no_else c rest is
@@ -175,7 +175,7 @@ mutual
       let long = length-append a (w ∷ test) in
       let fits1 = fits_less env (front ++ rest) os fits (omega (arith, whole)) in
       let few = fits_few known (w ∷ test) (fits_after env known a (w ∷ test) fits1 (stmt_grows g)) in
-      let read = stmt_there g (n - 1) (d - 1) (w ∷ test) fits1 (λ f. ap (λ (kind : LexemeKind). not (kinds.fits m.Else kind)) again) (omega (arith, room, whole)) (omega (arith, low)) in
+      let read = stmt_there g (n - 1) (d - 1) (w ∷ test) fits1 (λ f. ap (λ (kind : LexemeKind). not (marks.fits m.Else kind)) again) (omega (arith, room, whole)) (omega (arith, low)) in
       let then = enclosed_there o u few opening q closing (n - 1) (d - 1) (e ∷ rest) (omega (arith, room, whole, long)) (omega (arith, low)) in
       ap (stmt_at env n d) parts
       ∙ stmt_head env n d i os h.Do (omega (arith, room)) (omega (arith, low)) (ap head_of is)

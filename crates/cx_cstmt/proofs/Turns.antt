@@ -9,10 +9,11 @@ use Rattle.cx_cword.specs.declared.lexeme.Lexeme.{Lexeme}
 use Rattle.cx_cword.specs.Reading.{◌>>=◌, at_lexeme}
 use Rattle.cx_cname.specs.Known.{Known}
 use Rattle.cx_ceffect.specs.Reading.{effect_at}
-use Rattle.cx_cstmt.specs.declared.kinds.Mark.{Mark}
-use Rattle.cx_cstmt.specs.declared.kinds.Mark.TheVariants as m
+use Rattle.cx_cword.specs.declared.mark.Mark.{Mark}
+use Rattle.cx_cword.specs.declared.mark.Mark.TheVariants as m
 use Rattle.cx_cstmt.specs.Kinds.{head_of, begins_label, ends_group}
-use Rattle.cx_cstmt.specs.Reading.{listed, made, spelled, push, push_group, next, Lacks, variable_at, variables_at, label_at, labels_at, init_effects_at, stmt_by, item_by, stmt_at, items_at, stmts_at, groups_at}
+use Rattle.cx_cstmt.specs.Reading.{listed, made, spelled, push, push_group, next, variable_at, variables_at, label_at, labels_at, init_effects_at, stmt_by, item_by, stmt_at, items_at, stmts_at, groups_at}
+use Rattle.cx_cword.specs.Marks.{Lacks}
 
 pub next_lacks : {A : Type 0} (mark : Mark) (os : List Lexeme) (other : Option A) (go : Lexeme → List Lexeme → Option A) → Lacks mark os → next mark os other go ≡ other
 next_lacks mark [] other go h = refl

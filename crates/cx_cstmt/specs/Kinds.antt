@@ -1,5 +1,5 @@
 -- What a lexeme can be at each place of a statement.
-use Rattle.std.specs.Prelude.{Bool, true, false, not, ◌&&◌, ◌||◌, List, [], ◌∷◌, Option, Some, None}
+use Rattle.std.specs.Prelude.{Bool, true, false, not, ◌&&◌, ◌||◌, List, [], ◌∷◌}
 use Rattle.cx_cword.specs.declared.word.Keyword.TheVariants as k
 use Rattle.cx_cword.specs.declared.word.Punctuator.TheVariants as p
 use Rattle.cx_cword.specs.declared.lexeme.Lexeme.{Lexeme}
@@ -8,48 +8,12 @@ use Rattle.cx_cword.specs.declared.lexeme.LexemeKind.TheVariants as l
 use Rattle.cx_cname.specs.Known.{Known}
 use Rattle.cx_cexpr.specs.Reading.{begins_by}
 use Rattle.cx_ceffect.specs.Kinds.{calls}
-use Rattle.cx_cstmt.specs.declared.kinds.Mark.{Mark}
-use Rattle.cx_cstmt.specs.declared.kinds.Mark.TheVariants as m
+use Rattle.cx_cword.specs.declared.mark.Mark.TheVariants as m
+use Rattle.cx_cword.specs.Marks.{fits}
 use Rattle.cx_cstmt.specs.declared.kinds.Head.{Head}
 use Rattle.cx_cstmt.specs.declared.kinds.Head.TheVariants as h
 use Rattle.cx_cstmt.specs.declared.kinds.Label.{Label}
 use Rattle.cx_cstmt.specs.declared.kinds.Label.TheVariants as label
-
--- ---- marks
-
-abbrev pub mark_of : LexemeKind → Option Mark
-mark_of (l.Punctuator p.OpenParen) = Some m.OpenParen
-mark_of (l.Punctuator p.CloseParen) = Some m.CloseParen
-mark_of (l.Punctuator p.OpenBrace) = Some m.OpenBrace
-mark_of (l.Punctuator p.CloseBrace) = Some m.CloseBrace
-mark_of (l.Punctuator p.Semicolon) = Some m.Semicolon
-mark_of (l.Punctuator p.Comma) = Some m.Comma
-mark_of (l.Punctuator p.Colon) = Some m.Colon
-mark_of (l.Punctuator p.Assign) = Some m.Assign
-mark_of (l.Keyword k.While) = Some m.While
-mark_of (l.Keyword k.Else) = Some m.Else
-mark_of _ = None
-
-abbrev pub same_mark : Mark → Mark → Bool
-same_mark m.OpenParen m.OpenParen = true
-same_mark m.CloseParen m.CloseParen = true
-same_mark m.OpenBrace m.OpenBrace = true
-same_mark m.CloseBrace m.CloseBrace = true
-same_mark m.Semicolon m.Semicolon = true
-same_mark m.Comma m.Comma = true
-same_mark m.Colon m.Colon = true
-same_mark m.Assign m.Assign = true
-same_mark m.While m.While = true
-same_mark m.Else m.Else = true
-same_mark _ _ = false
-
-abbrev pub fits_mark : Mark → Option Mark → Bool
-fits_mark mark None = false
-fits_mark mark (Some other) = same_mark mark other
-
--- the lexeme is this mark
-abbrev pub fits : Mark → LexemeKind → Bool
-fits mark kind = fits_mark mark (mark_of kind)
 
 -- ---- statements
 

@@ -1,7 +1,6 @@
 -- Reading statements from left to right. The first number bounds the calls, the second the heights of trees.
 use Rattle.std.specs.Prelude.{◌≡◌, ℕ, zero, suc, ◌-◌, ◌≤◌, Bool, true, false, not, ◌&&◌, List, [], ◌∷◌, ◌++◌, map, Option, Some, None, is_some, option_map, Result, Ok, Err, nat_eq, nat_le, if◌then◌else◌}
 use Rattle.std.specs.Option.{option_map_or}
-use Rattle.std.specs.Borrow.{Bor}
 use Rattle.cx_ctree.specs.Types.{TypeTree}
 use Rattle.cx_ctree.specs.Exprs.{ExprTree, expr_tree, RhsTree, EffectTree, effect_tree}
 use Rattle.cx_ctree.specs.Stmts.{StmtTree, stmt, StmtKindTree, block, empty, effect, declare, if_alone, if_else, while, do_while, for, switch, break, continue, return, StmtTrees, no_stmt, also_stmt, GroupTrees, no_group, also_group, stmt_tree, stmt_trees, group_trees}
@@ -17,8 +16,8 @@ use Rattle.cx_ceffect.specs.Reading.{rhs_at, effect_at, effects_at}
 use Rattle.cx_cdecl.specs.Declarations.{Beside}
 use Rattle.cx_cdecl.specs.Reading.{Named, Specs, object_at, plain_specs_at}
 use Rattle.cx_cdecl.specs.Reading as decl
-use Rattle.cx_cstmt.specs.declared.kinds.Mark.{Mark}
-use Rattle.cx_cstmt.specs.declared.kinds.Mark.TheVariants as m
+use Rattle.cx_cword.specs.declared.mark.Mark.{Mark}
+use Rattle.cx_cword.specs.declared.mark.Mark.TheVariants as m
 use Rattle.cx_cstmt.specs.declared.kinds.Head.{Head}
 use Rattle.cx_cstmt.specs.declared.kinds.Head.TheVariants as h
 use Rattle.cx_cstmt.specs.declared.kinds.Label.{Label}
@@ -33,7 +32,8 @@ use Rattle.cx_cstmt.specs.declared.make.ReadLabels.{ReadLabels}
 use Rattle.cx_cstmt.specs.declared.make.ReadTest.{ReadTest}
 use Rattle.cx_cstmt.specs.declared.make.ReadSteps.{ReadSteps}
 use Rattle.cx_cstmt.specs.declared.make.ReadHeader.{ReadHeader}
-use Rattle.cx_cstmt.specs.Kinds.{fits, head_of, label_of, begins_label, ends_group, begins_local}
+use Rattle.cx_cstmt.specs.Kinds.{head_of, label_of, begins_label, ends_group, begins_local}
+use Rattle.cx_cword.specs.Marks.{fits}
 
 -- ---- what was read
 
@@ -136,6 +136,10 @@ spelled first past kind = stmt (span_between first past) kind
 unfoldable pub made : ℕ → StmtTree → Known → ℕ → List Lexeme → Option (Got StmtTree)
 made d x env past rest = if nat_le (stmt_path x) d then Some (record { tree = x; known = env; past = past; rest = rest }) else None
 
+-- a statement of this kind, which ends where the statement in it ends
+abbrev pub ended : ℕ → ℕ → StmtKindTree → Got StmtTree → Option (Got StmtTree)
+ended d first kind a = made d (spelled first a.past kind) a.known a.past a.rest
+
 abbrev pub push : StmtTrees → StmtTree → StmtTrees
 push no_stmt s = also_stmt s no_stmt
 push (also_stmt x ss) s = also_stmt x (push ss s)
@@ -147,15 +151,6 @@ push_group (also_group ms us gs) ls ss = also_group ms us (push_group gs ls ss)
 -- the mark, and then; or without it
 abbrev pub next : {A : Type 0} → Mark → List Lexeme → Option A → (Lexeme → List Lexeme → Option A) → Option A
 next mark os other go = at_lexeme os other (λ o rest. if fits mark o.kind then go o rest else other)
-
-abbrev pub Lacks : Mark → List Lexeme → Type 0
-Lacks mark [] = Unit {0}
-Lacks mark (o ∷ os) = fits mark o.kind ≡ false
-
--- the first lexeme, where it is this mark, and those after it
-abbrev pub Next : Mark → Option (Lexeme × Bor (List Lexeme)) → List Lexeme → Type 0
-Next mark None os = Lacks mark os
-Next mark (Some p) os = (os ≡ p.0 ∷ p.1.now) × (fits mark p.0.kind ≡ true)
 
 -- an expression in parentheses
 unfoldable pub enclosed_at : Known → ℕ → ℕ → List Lexeme → Option (expr.Got ExprTree)
@@ -240,13 +235,13 @@ Reader = Known → List Lexeme → Option (Got StmtTree)
 
 abbrev pub else_after : Reader → ℕ → ℕ → ExprTree → Got StmtTree → Option (Got StmtTree)
 else_after inner d first x a =
-    next m.Else a.rest (made d (spelled first a.past (if_alone x a.tree)) a.known a.past a.rest) (λ e rest. inner a.known rest >>= λ b. made d (spelled first b.past (if_else x a.tree b.tree)) b.known b.past b.rest)
+    next m.Else a.rest (ended d first (if_alone x a.tree) a) (λ e rest. inner a.known rest >>= λ b. ended d first (if_else x a.tree b.tree) b)
 
 abbrev pub if_after : Reader → Known → ℕ → ℕ → ℕ → List Lexeme → Option (Got StmtTree)
 if_after inner env n d first os = enclosed_at env n (d - 1) os >>= λ x. inner env x.rest >>= else_after inner d first x.tree
 
 abbrev pub while_after : Reader → Known → ℕ → ℕ → ℕ → List Lexeme → Option (Got StmtTree)
-while_after inner env n d first os = enclosed_at env n (d - 1) os >>= λ x. inner env x.rest >>= λ a. made d (spelled first a.past (while x.tree a.tree)) a.known a.past a.rest
+while_after inner env n d first os = enclosed_at env n (d - 1) os >>= λ x. inner env x.rest >>= λ a. ended d first (while x.tree a.tree) a
 
 abbrev pub do_ends : ℕ → ℕ → Got StmtTree → expr.Got ExprTree → Option (Got StmtTree)
 do_ends d first a x = next m.Semicolon x.rest None (λ c after. made d (spelled first c.span.past (do_while a.tree x.tree)) a.known c.span.past after)
@@ -254,8 +249,12 @@ do_ends d first a x = next m.Semicolon x.rest None (λ c after. made d (spelled 
 abbrev pub do_after : Reader → Known → ℕ → ℕ → ℕ → List Lexeme → Option (Got StmtTree)
 do_after inner env n d first os = inner env os >>= λ a. next m.While a.rest None (λ w rest. enclosed_at a.known n (d - 1) rest >>= do_ends d first a)
 
+-- a loop with this between its parentheses
+abbrev pub for_kind : Header → StmtTree → StmtKindTree
+for_kind h a = for h.init h.test h.steps a
+
 abbrev pub for_after : Reader → Known → ℕ → ℕ → ℕ → List Lexeme → Option (Got StmtTree)
-for_after inner env n d first os = header_at env n (d - 1) os >>= λ h. inner h.known h.rest >>= λ a. made d (spelled first a.past (for h.tree.init h.tree.test h.tree.steps a.tree)) a.known a.past a.rest
+for_after inner env n d first os = header_at env n (d - 1) os >>= λ h. inner h.known h.rest >>= λ a. ended d first (for_kind h.tree a.tree) a
 
 abbrev pub switch_ends : ℕ → ℕ → ExprTree → Got GroupTrees → Option (Got StmtTree)
 switch_ends d first x g = next m.CloseBrace g.rest None (λ c after. made d (spelled first c.span.past (switch x g.tree)) g.known c.span.past after)

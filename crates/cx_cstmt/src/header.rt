@@ -10,7 +10,7 @@ ghost use Rattle.cx_ceffect.specs.Reading.{got_effect, MeasuredEffect};
 ghost use Rattle.cx_cstmt.specs.Reading.{got, got_stmts, got_test, got_steps, got_header, spelled, made, enclosed_at, init_effects_at, init_ends, init_at, test_at, steps_at, header_at, Measured, LowStmts, MeasuredStmts, MeasuredTest, MeasuredSteps, MeasuredHeader};
 ghost use Rattle.cx_ctree.specs.Stmts as s;
 
-use crate::kinds::{Mark, begins_local, next};
+use crate::kinds::begins_local;
 use crate::local::local;
 use crate::make::{
     ReadHeader, ReadSteps, ReadStmt, ReadStmts, ReadTest, Stmts, made, no_stmts, of_effect,
@@ -21,7 +21,7 @@ use cx_ceffect::{ReadEffect, effect, effects};
 use cx_cexpr::{Read, cond};
 use cx_cname::Change;
 use cx_ctree::Unit;
-use cx_cword::{Lexeme, Stop, split};
+use cx_cword::{Lexeme, Mark, Stop, next, split};
 use std::alloc::Global;
 
 /// An expression in parentheses.

@@ -7,13 +7,13 @@ ghost use Rattle.cx_cword.specs.Reading.{Gives};
 ghost use Rattle.cx_cname.specs.Known.{known_of};
 ghost use Rattle.cx_cstmt.specs.Reading.{got_label, got_labels, label_at, labels_at, MeasuredLabel, MeasuredLabels};
 
-use crate::kinds::{Label, Mark, begins_label, label_of, next};
+use crate::kinds::{Label, begins_label, label_of};
 use crate::make::{ReadLabel, ReadLabels, higher};
 use cx_base::{List, NoMemory};
 use cx_cconst::constant_value;
 use cx_cexpr::cond;
 use cx_ctree::{Expr, Unit};
-use cx_cword::{Lexeme, Stop, split};
+use cx_cword::{Lexeme, Mark, Stop, next, split};
 use std::alloc::Global;
 
 fn is_constant(known: &Unit, x: &Expr) -> bool

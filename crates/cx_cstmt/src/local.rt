@@ -13,7 +13,6 @@ ghost use Rattle.cx_cdecl.specs.Reading.{said_tree, got_named, got_specs};
 ghost use Rattle.cx_cstmt.specs.Reading.{got, got_stmts, declared_at, variable_at, variables_at, local_by, local_at, Measured, LowStmts, MeasuredStmts};
 ghost use Rattle.cx_cstmt.specs.Reading as spec;
 
-use crate::kinds::{Mark, next};
 use crate::make::{ReadStmt, ReadStmts, Stmts, declares, higher, made, with_stmt};
 use cx_base::List;
 use cx_cdecl::declarator::{ReadNamed, object};
@@ -22,7 +21,7 @@ use cx_cdecl::specifier::{ReadSpecs, plain_specs};
 use cx_ceffect::rhs;
 use cx_cname::{Change, names_type};
 use cx_ctree::{CType, Rhs, Unit};
-use cx_cword::{Lexeme, Stop};
+use cx_cword::{Lexeme, Mark, Stop, next};
 use std::alloc::Global;
 
 /// How many nodes the longest path of the type has.

@@ -10,7 +10,7 @@ ghost use Rattle.cx_cword.specs.Reading.{Gives};
 ghost use Rattle.cx_cname.specs.Known.{known_of};
 ghost use Rattle.cx_cexpr.specs.Reading as expr;
 ghost use Rattle.cx_ceffect.specs.Reading.{MeasuredEffect, MeasuredRhs};
-ghost use Rattle.cx_cstmt.specs.Reading.{got, made, push, push_group, spelled, Measured, LowStmts, LowGroups, MeasuredLabels, MeasuredHeader, test_path};
+ghost use Rattle.cx_cstmt.specs.Reading.{got, got_header, made, ended, for_kind, push, push_group, spelled, Measured, LowStmts, LowGroups, MeasuredLabels, MeasuredHeader, test_path};
 
 use cx_base::{List, NoMemory, Span};
 use cx_ceffect::{ReadEffect, ReadRhs};
@@ -366,7 +366,7 @@ pub fn if_alone<'a>(
     requires shallow { left ≤ 400 }
     requires known { expr.Measured (left - 1) (Ok x) }
     requires known_too { Measured (left - 1) (Ok a) }
-    ensures value { Gives (λ r. got r (known_of known.now)) result (made left (spelled first a.entry.past (s.if_alone (expr_tree x.entry.tree) (stmt_tree a.entry.tree))) (known_of known.now) a.entry.past a.entry.rest.now) }
+    ensures value { Gives (λ r. got r (known_of known.now)) result (ended left first (s.if_alone (expr_tree x.entry.tree) (stmt_tree a.entry.tree)) (got a.entry (known_of known.now))) }
     ensures measured { Measured left result }
 {
     let height = higher(x.height, a.height) + 1;
@@ -395,7 +395,7 @@ pub fn if_else<'a>(
     requires known { expr.Measured (left - 1) (Ok x) }
     requires known_too { Measured (left - 1) (Ok a) }
     requires known_last { Measured (left - 1) (Ok b) }
-    ensures value { Gives (λ r. got r (known_of known.now)) result (made left (spelled first b.entry.past (s.if_else (expr_tree x.entry.tree) (stmt_tree a.entry.tree) (stmt_tree b.entry.tree))) (known_of known.now) b.entry.past b.entry.rest.now) }
+    ensures value { Gives (λ r. got r (known_of known.now)) result (ended left first (s.if_else (expr_tree x.entry.tree) (stmt_tree a.entry.tree) (stmt_tree b.entry.tree)) (got b.entry (known_of known.now))) }
     ensures measured { Measured left result }
 {
     let height = higher(x.height, higher(a.height, b.height)) + 1;
@@ -415,7 +415,7 @@ pub fn while_loop<'a>(
     requires shallow { left ≤ 400 }
     requires known { expr.Measured (left - 1) (Ok x) }
     requires known_too { Measured (left - 1) (Ok a) }
-    ensures value { Gives (λ r. got r (known_of known.now)) result (made left (spelled first a.entry.past (s.while (expr_tree x.entry.tree) (stmt_tree a.entry.tree))) (known_of known.now) a.entry.past a.entry.rest.now) }
+    ensures value { Gives (λ r. got r (known_of known.now)) result (ended left first (s.while (expr_tree x.entry.tree) (stmt_tree a.entry.tree)) (got a.entry (known_of known.now))) }
     ensures measured { Measured left result }
 {
     let height = higher(x.height, a.height) + 1;
@@ -457,7 +457,7 @@ pub fn for_loop<'a>(
     requires shallow { left ≤ 400 }
     requires known { MeasuredHeader (left - 1) (Ok h) }
     requires known_too { Measured (left - 1) (Ok a) }
-    ensures value { Gives (λ r. got r (known_of known.now)) result (made left (spelled first a.entry.past (s.for (stmt_trees h.entry.init.all) (option_map expr_tree h.entry.test) (map effect_tree h.entry.steps) (stmt_tree a.entry.tree))) (known_of known.now) a.entry.past a.entry.rest.now) }
+    ensures value { Gives (λ r. got r (known_of known.now)) result (ended left first (for_kind (got_header h.entry (known_of known.now)).tree (stmt_tree a.entry.tree)) (got a.entry (known_of known.now))) }
     ensures measured { Measured left result }
 {
     let inside = higher(h.test_height, higher(h.steps_height, a.height));

@@ -11,7 +11,7 @@ ghost use Rattle.cx_cexpr.specs.Reading as expr;
 ghost use Rattle.cx_cstmt.specs.Reading.{got, got_stmts, got_groups, spelled, made, jump_at, return_at, effect_stmt_at, if_after, else_after, while_after, do_after, for_after, switch_after, switch_ends, block_ends, block_at, stmt_at, items_at, stmts_at, groups_at, Measured, MeasuredStmts, MeasuredGroups};
 
 use crate::header::{enclosed, header};
-use crate::kinds::{Head, Mark, begins_local, ends_group, head_of, next};
+use crate::kinds::{Head, begins_local, ends_group, head_of};
 use crate::label::labels;
 use crate::local::local;
 use crate::make::{
@@ -24,7 +24,7 @@ use cx_ceffect::{effect, rhs};
 use cx_cexpr::Read;
 use cx_cname::Change;
 use cx_ctree::Unit;
-use cx_cword::{Lexeme, Stop, split};
+use cx_cword::{Lexeme, Mark, Stop, next, split};
 use std::alloc::Global;
 
 /// What stands after `break`.

@@ -1,5 +1,5 @@
 -- Lists of lexemes: which a lexeme is, where a list begins and ends, and what a reader of lexemes answers.
-use Rattle.std.specs.Prelude.{◌≡◌, ◌≢◌, ℕ, max, List, [], ◌∷◌, Option, Some, None, Result, Ok, Err, option_and_then}
+use Rattle.std.specs.Prelude.{◌≡◌, ℕ, max, List, [], ◌∷◌, Option, Some, None, Result, Ok, Err, option_and_then}
 use Rattle.std.specs.Borrow.{Bor}
 use Rattle.std.proofs.Math.Nat.{le-max_left}
 use Rattle.cx_base.specs.declared.span.Span.{Span}
@@ -71,13 +71,3 @@ Splits (Some p) os = os ≡ p.0 ∷ p.1.now
 abbrev pub at_lexeme : {A : Type 0} → List Lexeme → Option A → (Lexeme → List Lexeme → Option A) → Option A
 at_lexeme [] end go = end
 at_lexeme (o ∷ os) end go = go o os
-
--- the first lexeme is none of this kind
-abbrev pub Lacks : LexemeKind → List Lexeme → Type 0
-Lacks kind [] = Unit {0}
-Lacks kind (o ∷ os) = o.kind ≢ kind
-
--- the first lexeme, which is of this kind, and those after it
-abbrev pub Next : LexemeKind → Option (Lexeme × Bor (List Lexeme)) → List Lexeme → Type 0
-Next kind None os = Lacks kind os
-Next kind (Some p) os = (os ≡ p.0 ∷ p.1.now) × (p.0.kind ≡ kind)

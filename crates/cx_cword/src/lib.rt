@@ -5,10 +5,12 @@
 mod character;
 mod integer;
 mod lexeme;
+mod mark;
 mod reading;
 mod word;
 
 pub use integer::{Suffix, digits, int_of};
 pub use lexeme::{Lexeme, LexemeKind, lexemes};
-pub use reading::{Stop, next, next_word, span_between, split};
+pub use mark::{Mark, fits, next};
+pub use reading::{Stop, span_between, split};
 pub use word::{Keyword, Punctuator, keyword_of, look_up, punctuator_of};

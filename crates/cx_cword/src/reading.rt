@@ -1,11 +1,9 @@
 ghost use Rattle.std.specs.Prelude.{◌≡◌};
-ghost use Rattle.cx_cword.specs.declared.lexeme.LexemeKind.TheVariants as l;
 ghost use Rattle.cx_cword.specs.declared.reading.Stop.TheVariants.{NoMemory as OutOfMemory};
-ghost use Rattle.cx_cword.specs.Reading.{Splits, Next};
+ghost use Rattle.cx_cword.specs.Reading.{Splits};
 ghost use Rattle.cx_cword.specs.Reading as spec;
 
-use crate::lexeme::{Lexeme, LexemeKind};
-use crate::word::{Keyword, Punctuator};
+use crate::lexeme::Lexeme;
 use cx_base::{NoMemory, Span};
 use std::alloc::{AllocError, AllocFailed};
 
@@ -58,29 +56,5 @@ pub fn split(lexemes: &[Lexeme]) -> Option<(Lexeme, &[Lexeme])>
     match lexemes {
         [] => None,
         [o, rest @ ..] => Some((*o, rest)),
-    }
-}
-
-/// The first lexeme, where it is this punctuator, and those after it.
-pub fn next(mark: Punctuator, lexemes: &[Lexeme]) -> Option<(Lexeme, &[Lexeme])>
-    ensures { Next (l.Punctuator mark) result lexemes.now }
-{
-    let (o, rest) = split(lexemes)?;
-    if o.kind == LexemeKind::Punctuator(mark) {
-        Some((o, rest))
-    } else {
-        None
-    }
-}
-
-/// The first lexeme, where it is this word, and those after it.
-pub fn next_word(word: Keyword, lexemes: &[Lexeme]) -> Option<(Lexeme, &[Lexeme])>
-    ensures { Next (l.Keyword word) result lexemes.now }
-{
-    let (o, rest) = split(lexemes)?;
-    if o.kind == LexemeKind::Keyword(word) {
-        Some((o, rest))
-    } else {
-        None
     }
 }
