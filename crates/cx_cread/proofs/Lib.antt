@@ -7,5 +7,6 @@ pub mod Totals
 pub mod Taking
 pub mod Once
 pub mod Only
+pub mod OfText
 pub mod Steps
 pub mod Bodies

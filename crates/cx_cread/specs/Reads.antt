@@ -1,8 +1,9 @@
 -- What a C file is read as: functions with their bodies (C11 6.9.1), and the items in order, each among the names that those before it declare.
-use Rattle.std.specs.Prelude.{◌≡◌, ◌≤◌, ℕ, Bool, false, ◌==◌, List, [], ◌∷◌, ◌++◌, map, None}
+use Rattle.std.specs.Prelude.{◌≡◌, ◌≤◌, ℕ, Bool, false, ◌==◌, List, [], ◌∷◌, ◌++◌, map, None, Ok}
 use Rattle.std.specs.List.{list_any, position_or_len}
 use Rattle.std.specs.Str.{bytes_eq}
 use Rattle.cx_base.specs.declared.token.Token.{Token}
+use Rattle.cx_lex.specs.Lexed.{lexed}
 use Rattle.cx_ctree.specs.Types.{TypeTree}
 use Rattle.cx_ctree.specs.Stmts.{block, StmtTrees}
 use Rattle.cx_ctree.specs.Path.{stmt_path}
@@ -67,7 +68,12 @@ pub record Reads (bytes : List ℕ) (tokens : List Token) (u : UnitTree) : Type 
   pub items : AreItems [] nothing_known (items_of (lexemes u.names bytes tokens)) u.items (known_after u)
   pub named : u.named ≡ named_by u.names bytes (items_of (lexemes u.names bytes tokens)) u.items
 
--- the unit of a text, which has no other
+-- the unit of a text with these tokens, which has no other
 pub record ReadsOnly (bytes : List ℕ) (tokens : List Token) (u : UnitTree) : Type 0 where
   pub reads : Reads bytes tokens u
   pub only : (v : UnitTree) → Reads bytes tokens v → v ≡ u
+
+-- the one unit of a text: its tokens are those of the text, and its items those of the tokens
+pub record IsUnitOf (bytes : List ℕ) (u : UnitTree) : Type 0 where
+  pub tokens : lexed bytes ≡ Ok u.tokens
+  pub items : ReadsOnly bytes u.tokens u

@@ -1,10 +1,11 @@
-ghost use Rattle.std.specs.Prelude.{◌≡◌, ◌≤◌, ◌+◌, ◌^◌, length, All, IfOk, IfErr, OnOk};
+ghost use Rattle.std.specs.Prelude.{◌≡◌, ◌≤◌, ◌+◌, ◌^◌, length, All, IfOk, IfErr, OnOk, Ok};
+ghost use Rattle.cx_lex.specs.Lexed.{lexed};
 ghost use Rattle.cx_ctree.specs.Units.{unit_tree};
 ghost use Rattle.cx_cword.specs.Reading as reading;
 ghost use Rattle.cx_cword.specs.Lexemes.{lexemes as lexemes_of};
 ghost use Rattle.cx_citem.specs.Items.{unit_fault, items_of};
 ghost use Rattle.cx_citem.specs.Numbering.{numbering};
-ghost use Rattle.cx_cread.specs.Reads.{ReadsOnly};
+ghost use Rattle.cx_cread.specs.Reads.{ReadsOnly, IsUnitOf};
 ghost use Rattle.cx_cread.specs.Faults.{Tells};
 ghost use Rattle.cx_cread.specs.Reading.{InText, Takes, TakesAll, empty_unit};
 
@@ -105,11 +106,13 @@ fn new_unit(alloc: Global, names: Names, tokens: &[Token]) -> Result<Unit, NoMem
 
 /// The items of a C file, each with what it declares, or passed over where it is not derived.
 ///
-/// `tokens` are the tokens of the text. `NoMemory` may come in place of any answer.
+/// Where `tokens` are the tokens of the text, the unit is the one unit of the text. `NoMemory` may
+/// come in place of any answer.
 pub fn read_unit(alloc: Global, bytes: &[u8], tokens: &[Token]) -> Result<Unit, UnitFault>
     requires inside { All (λ t. t.span.past ≤ length bytes.now) tokens.now }
     requires few { length tokens.now ≤ 2 ^ 24 }
     ensures unit { IfOk result (λ u. ReadsOnly bytes.now tokens.now (unit_tree u)) }
+    ensures of_text { IfOk result (λ u. lexed bytes.now ≡ Ok tokens.now → IsUnitOf bytes.now (unit_tree u)) }
     ensures fault { IfErr result (λ e. Tells e (unit_fault (lexemes_of (numbering bytes.now tokens.now) bytes.now tokens.now))) }
 {
     let names = number_names(alloc, bytes, tokens)?;

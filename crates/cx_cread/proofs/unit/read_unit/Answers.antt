@@ -9,6 +9,7 @@ use Rattle.cx_cread.specs.Reading.{InText, TakesAll, empty_unit}
 use Rattle.cx_cread.proofs.Words.{text_all}
 use Rattle.cx_cread.proofs.Taking.{reads_is}
 use Rattle.cx_cread.proofs.Only.{reads_only}
+use Rattle.cx_cread.proofs.OfText.{unit_of_text}
 use Rattle.cx_cread.proofs.unit.read_unit.Goals as goal
 
 pub read_items-requires-clause-text : goal.read_items-requires-clause-text
@@ -30,3 +31,6 @@ returns-clause-unit c =
     let items = ap items_of (c.as_slice-2.ensures ∙ made) in
     let all = subst (λ (p : List (List Lexeme) × UnitTree). TakesAll bytes p.0 p.1 u) (λ k. (items k, start k)) c.in_ok-read_items.ensures in
     reads_only bytes tokens u c.requires.few (reads_is bytes tokens u whole all)
+
+pub returns-clause-of_text : goal.returns-clause-of_text
+returns-clause-of_text c = unit_of_text c.args.bytes.now c.args.tokens.now (unit_tree c.read_items.new.unit) (returns-clause-unit c)
