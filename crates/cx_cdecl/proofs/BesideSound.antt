@@ -1,11 +1,13 @@
 -- What is read beside a type is what stands there.
 use Rattle.std.proofs.Common.{◌≡◌, ℕ, zero, suc, Bool, true, false, ◌||◌, ◌&&◌, List, [], ◌∷◌, ◌++◌, Option, Some, None, refl, sym, ap, ◌∙◌, subst, append_assoc}
+use Rattle.std.proofs.lemmas.Option.{same_Some}
+use Rattle.cx_base.proofs.General.{both_true}
 use Rattle.cx_cword.specs.declared.word.Keyword.{Keyword}
 use Rattle.cx_cword.specs.declared.word.Keyword.TheVariants as k
 use Rattle.cx_cword.specs.declared.lexeme.Lexeme.{Lexeme}
 use Rattle.cx_cword.specs.declared.lexeme.LexemeKind.TheVariants as l
 use Rattle.cx_cword.specs.Reading.{IsWord, ◌>>=◌}
-use Rattle.cx_cexpr.proofs.Steps.{bind_some, some_is}
+use Rattle.cx_cexpr.proofs.Steps.{bind_some}
 use Rattle.cx_cword.specs.declared.mark.Mark.{Mark}
 use Rattle.cx_cword.specs.declared.mark.Mark.TheVariants as m
 use Rattle.cx_cdecl.specs.declared.kinds.Bracket.{Bracket}
@@ -34,12 +36,12 @@ balanced_step again goes o rest g (b.Open close) is e =
     let i = bind_some (again rest) (λ inside. wanted close inside again) g e in
     let w = wanted_some close i.0 again g i.2 in
     grouped o rest i.0 w.0 g close (bracket_open o.kind close is) (goes rest i.0 i.1) w.1 (goes w.0 g w.2)
-balanced_step again goes o rest g b.Stop is e = record { front = []; parts = some_is (o ∷ rest) g e; so = none_balanced }
+balanced_step again goes o rest g b.Stop is e = record { front = []; parts = same_Some (o ∷ rest) g e; so = none_balanced }
 
 balanced_sound : (n : ℕ) (os g : List Lexeme) → balanced_at n os ≡ Some g → Front AreBalanced os g
 unfolding balanced_at
 balanced_sound zero os g e = absurd cc
-balanced_sound (suc n) [] g e = record { front = []; parts = some_is [] g e; so = none_balanced }
+balanced_sound (suc n) [] g e = record { front = []; parts = same_Some [] g e; so = none_balanced }
 balanced_sound (suc n) (o ∷ rest) g e = balanced_step (balanced_at n) (balanced_sound n) o rest g (bracket_of o.kind) refl e
 
 listed : (word : Keyword) (o : Lexeme) (os inside rest after : List Lexeme) → IsWord word o → Marked m.OpenParen os inside → Front AreBalanced inside rest → Marked m.CloseParen rest after → Front (IsAttributes word) (o ∷ os) after
@@ -58,7 +60,7 @@ attributes_sound turns word o os g is e =
     let w = wanted_some m.OpenParen os (λ rest. balanced_at turns rest >>= shut) g e in
     let i = bind_some (balanced_at turns w.0) shut g w.2 in
     let c = wanted_some m.CloseParen i.0 (λ after. Some after) g i.2 in
-    listed word o os w.0 i.0 g is w.1 (balanced_sound turns w.0 i.0 i.1) (subst (Marked m.CloseParen i.0) (some_is c.0 g c.2) c.1)
+    listed word o os w.0 i.0 g is w.1 (balanced_sound turns w.0 i.0 i.1) (subst (Marked m.CloseParen i.0) (same_Some c.0 g c.2) c.1)
 
 -- ---- words and attributes beside a type
 
@@ -71,12 +73,12 @@ beside_of t l s a = record { typedef_ = t; linked = l; stored = s; attributed = 
 
 -- a word says the same before and after the others
 pub word_first : (w : Keyword) (s t r : Beside) → also_said w s ≡ Some t → (q : Beside) × (also_said w r ≡ Some q) × (both_said t r ≡ both_said s q)
-word_first k.Typedef s t r e = (_, refl, subst (λ (v : Beside). both_said v r ≡ both_said s (record r { typedef_ = true; stored = true })) (some_is _ t e) (sym (ap (λ (v : Bool). beside_of v (s.linked || r.linked) (s.stored || true) (s.attributed || r.attributed)) (or_true s.typedef_) ∙ ap (λ (v : Bool). beside_of true (s.linked || r.linked) v (s.attributed || r.attributed)) (or_true s.stored))))
-word_first k.Extern s t r e = (_, refl, subst (λ (v : Beside). both_said v r ≡ both_said s (record r { linked = true; stored = true })) (some_is _ t e) (sym (ap (λ (v : Bool). beside_of (s.typedef_ || r.typedef_) v (s.stored || true) (s.attributed || r.attributed)) (or_true s.linked) ∙ ap (λ (v : Bool). beside_of (s.typedef_ || r.typedef_) true v (s.attributed || r.attributed)) (or_true s.stored))))
-word_first k.Static s t r e = (_, refl, subst (λ (v : Beside). both_said v r ≡ both_said s (record r { linked = true; stored = true })) (some_is _ t e) (sym (ap (λ (v : Bool). beside_of (s.typedef_ || r.typedef_) v (s.stored || true) (s.attributed || r.attributed)) (or_true s.linked) ∙ ap (λ (v : Bool). beside_of (s.typedef_ || r.typedef_) true v (s.attributed || r.attributed)) (or_true s.stored))))
-word_first k.Inline s t r e = (_, refl, subst (λ (v : Beside). both_said v r ≡ both_said s (record r { stored = true })) (some_is _ t e) (sym (ap (λ (v : Bool). beside_of (s.typedef_ || r.typedef_) (s.linked || r.linked) v (s.attributed || r.attributed)) (or_true s.stored))))
-word_first k.Register s t r e = (_, refl, subst (λ (v : Beside). both_said v r ≡ both_said s (record r { stored = true })) (some_is _ t e) (sym (ap (λ (v : Bool). beside_of (s.typedef_ || r.typedef_) (s.linked || r.linked) v (s.attributed || r.attributed)) (or_true s.stored))))
-word_first k.Skipped s t r e = (_, refl, subst (λ (v : Beside). both_said v r ≡ both_said s r) (some_is _ t e) refl)
+word_first k.Typedef s t r e = (_, refl, subst (λ (v : Beside). both_said v r ≡ both_said s (record r { typedef_ = true; stored = true })) (same_Some _ t e) (sym (ap (λ (v : Bool). beside_of v (s.linked || r.linked) (s.stored || true) (s.attributed || r.attributed)) (or_true s.typedef_) ∙ ap (λ (v : Bool). beside_of true (s.linked || r.linked) v (s.attributed || r.attributed)) (or_true s.stored))))
+word_first k.Extern s t r e = (_, refl, subst (λ (v : Beside). both_said v r ≡ both_said s (record r { linked = true; stored = true })) (same_Some _ t e) (sym (ap (λ (v : Bool). beside_of (s.typedef_ || r.typedef_) v (s.stored || true) (s.attributed || r.attributed)) (or_true s.linked) ∙ ap (λ (v : Bool). beside_of (s.typedef_ || r.typedef_) true v (s.attributed || r.attributed)) (or_true s.stored))))
+word_first k.Static s t r e = (_, refl, subst (λ (v : Beside). both_said v r ≡ both_said s (record r { linked = true; stored = true })) (same_Some _ t e) (sym (ap (λ (v : Bool). beside_of (s.typedef_ || r.typedef_) v (s.stored || true) (s.attributed || r.attributed)) (or_true s.linked) ∙ ap (λ (v : Bool). beside_of (s.typedef_ || r.typedef_) true v (s.attributed || r.attributed)) (or_true s.stored))))
+word_first k.Inline s t r e = (_, refl, subst (λ (v : Beside). both_said v r ≡ both_said s (record r { stored = true })) (same_Some _ t e) (sym (ap (λ (v : Bool). beside_of (s.typedef_ || r.typedef_) (s.linked || r.linked) v (s.attributed || r.attributed)) (or_true s.stored))))
+word_first k.Register s t r e = (_, refl, subst (λ (v : Beside). both_said v r ≡ both_said s (record r { stored = true })) (same_Some _ t e) (sym (ap (λ (v : Bool). beside_of (s.typedef_ || r.typedef_) (s.linked || r.linked) v (s.attributed || r.attributed)) (or_true s.stored))))
+word_first k.Skipped s t r e = (_, refl, subst (λ (v : Beside). both_said v r ≡ both_said s r) (same_Some _ t e) refl)
 word_first _ s t r e = absurd cc
 
 pub attributes_first : (s r : Beside) → both_said (record s { attributed = true }) r ≡ both_said s (record r { attributed = true })
@@ -109,12 +111,12 @@ said_nothing : (open_ : Bool) (s : Beside) (os : List Lexeme) → Said open_ s o
 said_nothing open_ s os = record { front = []; said = nothing_said; parts = refl; so = none_beside; tree = nothing_more s; bare = λ e. refl }
 
 pub kept_bare : (w : Keyword) (r q : Beside) → also_said w r ≡ Some q → q.attributed ≡ r.attributed
-kept_bare k.Typedef r q e = ap (λ (v : Beside). v.attributed) (sym (some_is _ q e))
-kept_bare k.Extern r q e = ap (λ (v : Beside). v.attributed) (sym (some_is _ q e))
-kept_bare k.Static r q e = ap (λ (v : Beside). v.attributed) (sym (some_is _ q e))
-kept_bare k.Inline r q e = ap (λ (v : Beside). v.attributed) (sym (some_is _ q e))
-kept_bare k.Register r q e = ap (λ (v : Beside). v.attributed) (sym (some_is _ q e))
-kept_bare k.Skipped r q e = ap (λ (v : Beside). v.attributed) (sym (some_is _ q e))
+kept_bare k.Typedef r q e = ap (λ (v : Beside). v.attributed) (sym (same_Some _ q e))
+kept_bare k.Extern r q e = ap (λ (v : Beside). v.attributed) (sym (same_Some _ q e))
+kept_bare k.Static r q e = ap (λ (v : Beside). v.attributed) (sym (same_Some _ q e))
+kept_bare k.Inline r q e = ap (λ (v : Beside). v.attributed) (sym (same_Some _ q e))
+kept_bare k.Register r q e = ap (λ (v : Beside). v.attributed) (sym (same_Some _ q e))
+kept_bare k.Skipped r q e = ap (λ (v : Beside). v.attributed) (sym (same_Some _ q e))
 kept_bare _ r q e = absurd cc
 
 said_word : (open_ : Bool) (s t : Beside) (o : Lexeme) (os : List Lexeme) (g : Got Beside) (w : Keyword) → o.kind ≡ l.Keyword w → also_said w s ≡ Some t → Said open_ t os g → Said open_ s (o ∷ os) g
@@ -132,17 +134,13 @@ said_list s o os rest g a f = record {
   bare = λ h. absurd cc;
 }
 
-and_true : (a b : Bool) → (a && b) ≡ true → (a ≡ true) × (b ≡ true)
-and_true true b e = (refl, e)
-and_true false b e = absurd cc
-
 list_step : (turns : ℕ) (open_ : Bool) (s : Beside) (o : Lexeme) (os : List Lexeme) (again : List Lexeme → Got Beside)
     → ((rest : List Lexeme) → Said open_ (record s { attributed = true }) rest (again rest))
     → (found : Option (List Lexeme)) → if_true (open_ && is_attribute o.kind) (attributes_at turns os) ≡ found → Said open_ s (o ∷ os) (beside_attributes again (stopped s (o ∷ os)) found)
 list_step turns open_ s o os again goes None is = said_nothing open_ s (o ∷ os)
 list_step turns open_ s o os again goes (Some rest) is =
     let h = if_some (open_ && is_attribute o.kind) (attributes_at turns os) rest is in
-    let t = and_true open_ (is_attribute o.kind) h.0 in
+    let t = both_true open_ (is_attribute o.kind) h.0 in
     subst (λ (v : Bool). Said v s (o ∷ os) (again rest)) (sym t.0)
     (said_list s o os rest (again rest) (attributes_sound turns k.Attribute o os rest (attribute_is o.kind t.1) h.1) (subst (λ (v : Bool). Said v (record s { attributed = true }) rest (again rest)) t.0 (goes rest)))
 

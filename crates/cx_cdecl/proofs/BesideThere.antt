@@ -1,5 +1,7 @@
 -- What stands beside a type is read.
 use Rattle.std.proofs.Common.{◌≡◌, ℕ, zero, suc, ◌+◌, ◌≤◌, Bool, true, false, ◌&&◌, List, [], ◌∷◌, ◌++◌, length, length-append, Option, Some, None, refl, sym, ap, ◌∙◌, subst, append_assoc, arith}
+use Rattle.std.proofs.lemmas.Option.{same_Some}
+use Rattle.cx_base.proofs.General.{not_true}
 use Rattle.cx_cword.specs.declared.word.Keyword.{Keyword}
 use Rattle.cx_cword.specs.declared.word.Keyword.TheVariants as k
 use Rattle.cx_cword.specs.declared.word.Punctuator.{Punctuator}
@@ -8,7 +10,6 @@ use Rattle.cx_cword.specs.declared.lexeme.Lexeme.{Lexeme}
 use Rattle.cx_cword.specs.declared.lexeme.LexemeKind.{LexemeKind}
 use Rattle.cx_cword.specs.declared.lexeme.LexemeKind.TheVariants as l
 use Rattle.cx_cword.specs.Reading.{Is, IsWord, ◌>>=◌}
-use Rattle.cx_cexpr.proofs.Steps.{some_is}
 use Rattle.cx_cword.specs.declared.mark.Mark.{Mark}
 use Rattle.cx_cword.specs.declared.mark.Mark.TheVariants as m
 use Rattle.cx_cdecl.specs.declared.kinds.Bracket.TheVariants as b
@@ -16,7 +17,7 @@ use Rattle.cx_cdecl.specs.Declarations.{Beside, also_said, both_said, partner, i
 use Rattle.cx_cdecl.specs.Kinds.{also_says, is_attribute, is_after, bracket_by, bracket_of}
 use Rattle.cx_cdecl.specs.Reading.{Got, wanted, if_true, balanced_by, balanced_at, attributes_at, beside_attributes, beside_by, beside_at, after_by, after_at}
 use Rattle.cx_cdecl.proofs.BesideSound.{word_first, attributes_first, nothing_more, kept_bare}
-use Rattle.cx_cdecl.proofs.Follows.{is_beside, is_beside_word, no_beside, no_keyword, not_true, wanted_goes, bind_goes, keyword_after}
+use Rattle.cx_cdecl.proofs.Follows.{is_beside, is_beside_word, no_beside, no_keyword, wanted_goes, bind_goes, keyword_after}
 use Rattle.cx_cword.proofs.Marks.{kind_of}
 
 -- ---- attributes
@@ -48,9 +49,9 @@ record Opening (kind : LexemeKind) (close : Punctuator) : Type 0 where
   stops : bracket_by close ≡ b.Stop
 
 opening_mark : (q close : Punctuator) → partner (l.Punctuator q) ≡ Some close → Opening (l.Punctuator q) close
-opening_mark p.OpenParen close e = subst (Opening (l.Punctuator p.OpenParen)) (some_is p.CloseParen close e) (record { mark = m.CloseParen; opens = refl; same = refl; stops = refl })
-opening_mark p.OpenBracket close e = subst (Opening (l.Punctuator p.OpenBracket)) (some_is p.CloseBracket close e) (record { mark = m.CloseBracket; opens = refl; same = refl; stops = refl })
-opening_mark p.OpenBrace close e = subst (Opening (l.Punctuator p.OpenBrace)) (some_is p.CloseBrace close e) (record { mark = m.CloseBrace; opens = refl; same = refl; stops = refl })
+opening_mark p.OpenParen close e = subst (Opening (l.Punctuator p.OpenParen)) (same_Some p.CloseParen close e) (record { mark = m.CloseParen; opens = refl; same = refl; stops = refl })
+opening_mark p.OpenBracket close e = subst (Opening (l.Punctuator p.OpenBracket)) (same_Some p.CloseBracket close e) (record { mark = m.CloseBracket; opens = refl; same = refl; stops = refl })
+opening_mark p.OpenBrace close e = subst (Opening (l.Punctuator p.OpenBrace)) (same_Some p.CloseBrace close e) (record { mark = m.CloseBrace; opens = refl; same = refl; stops = refl })
 opening_mark _ close e = absurd cc
 
 opening : (kind : LexemeKind) (close : Punctuator) → partner kind ≡ Some close → Opening kind close
@@ -133,7 +134,7 @@ moved : (w : Keyword) (s r q : Beside) → also_said w r ≡ Some q → Moved w 
 moved w s r q e =
     let a = word_first w r q s e in
     let c = word_first w s a.0 r a.1 in
-    record { t = a.0; says = a.1; same = c.2 ∙ ap (both_said s) (some_is c.0 q (sym c.1 ∙ e)) }
+    record { t = a.0; says = a.1; same = c.2 ∙ ap (both_said s) (same_Some c.0 q (sym c.1 ∙ e)) }
 
 word_goes : (turns : ℕ) (open_ : Bool) (n : ℕ) (s t : Beside) (o : Lexeme) (rest : List Lexeme) → also_says o.kind s ≡ Some t → beside_at turns open_ (suc n) s (o ∷ rest) ≡ beside_at turns open_ n t rest
 unfolding beside_at

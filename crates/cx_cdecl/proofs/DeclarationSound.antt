@@ -3,6 +3,8 @@ use Rattle.std.proofs.Common.{◌≡◌, ℕ, zero, suc, Bool, true, false, ◌&
 use Rattle.std.specs.Prelude.{not, MatchOption, ⊤}
 use Rattle.std.specs.List.{list_all}
 use Rattle.std.specs.Option.{option_map_or}
+use Rattle.std.proofs.lemmas.Option.{same_Some}
+use Rattle.cx_base.proofs.General.{not_true, both_true}
 use Rattle.cx_ctree.specs.Types.{TypeTree}
 use Rattle.cx_ctree.specs.Decls.{SignatureTree, DeclTree, types, object, proto, function}
 use Rattle.cx_cword.specs.declared.word.Punctuator.TheVariants as p
@@ -13,7 +15,7 @@ use Rattle.cx_cname.specs.Meanings.{may_be, same_meaning, same_type, same_types}
 use Rattle.cx_cname.proofs.Same.{same_means}
 use Rattle.cx_cconst.specs.Constants.{is_constant}
 use Rattle.cx_cexpr.specs.Reading.{cond_at}
-use Rattle.cx_cexpr.proofs.Steps.{bind_some, some_is}
+use Rattle.cx_cexpr.proofs.Steps.{bind_some}
 use Rattle.cx_cexpr.proofs.Sound.{cond_sound}
 use Rattle.cx_cword.specs.declared.mark.Mark.TheVariants as m
 use Rattle.cx_cdecl.specs.Declarations.{IsObject, IsFunction, function_of, IsInitDeclarator, type_declared, object_declared, object_initialised, function_declared, AreInitDeclarators, first_declarator, also_declarator, is_function, IsDeclaration, declares_types, declares}
@@ -22,8 +24,6 @@ use Rattle.cx_cdecl.specs.Reading.{Got, After, Named, Specs, wanted, choose, if_
 use Rattle.cx_cdecl.proofs.Steps.{if_some, Marked, wanted_some, choose_some}
 use Rattle.cx_cdecl.proofs.BesideSound.{after_sound}
 use Rattle.cx_cdecl.proofs.DeclaratorSound.{NamedFront, name_sound, ObjectFront, after_name, object_sound}
-use Rattle.cx_cdecl.proofs.EnumSound.{and_parts}
-use Rattle.cx_cdecl.proofs.TagSound.{is_not}
 use Rattle.cx_cdecl.proofs.SpecsSound.{SpecsFront, plain_specs_sound}
 use Rattle.cx_cdecl.proofs.MembersSound.{specs_sound}
 use Rattle.cx_cdecl.proofs.ParamsSound.{param_list_sound}
@@ -33,7 +33,7 @@ use Rattle.cx_cdecl.proofs.ParamsSound.{param_list_sound}
 types_same : (ts ws : List TypeTree) → same_types ts ws ≡ true → ts ≡ ws
 types_same [] [] e = refl
 types_same (t ∷ ts) (w ∷ ws) e =
-    let b = and_parts (same_type t w) (same_types ts ws) e in
+    let b = both_true (same_type t w) (same_types ts ws) e in
     ap (λ (v : TypeTree). v ∷ ts) (same_means t w b.0) ∙ ap (λ (v : List TypeTree). w ∷ v) (types_same ts ws b.1)
 types_same _ _ e = absurd cc
 
@@ -41,7 +41,7 @@ meaning_same : (a b : Meaning) → same_meaning a b ≡ true → a ≡ b
 meaning_same (a_type t) (a_type w) e = ap a_type (same_means t w e)
 meaning_same (an_object t) (an_object w) e = ap an_object (same_means t w e)
 meaning_same (a_function t ts) (a_function w ws) e =
-    let b = and_parts (same_type t w) (same_types ts ws) e in
+    let b = both_true (same_type t w) (same_types ts ws) e in
     ap (λ (v : TypeTree). a_function v ts) (same_means t w b.0) ∙ ap (a_function w) (types_same ts ws b.1)
 meaning_same _ _ e = absurd cc
 
@@ -84,7 +84,7 @@ function_so turns earlier env t os rest x g f opens e =
     let q = param_list_sound turns earlier env rest c.0 i.0 i.1 c.1 in
     let a = after_sound turns turns c.0 in
     let sig : SignatureTree = record { name = x.tree.name; result = x.tree.ctype; params = i.0.tree } in
-    subst (DeclaratorFront earlier env t os) (some_is (function_made x.tree i.0.known (after_at turns turns c.0) i.0) g c.2) (record {
+    subst (DeclaratorFront earlier env t os) (same_Some (function_made x.tree i.0.known (after_at turns turns c.0) i.0) g c.2) (record {
       front = f.front ++ x.tree.lexeme ∷ opens.at ∷ q.front ++ c.1.at ∷ a.front;
       parts = function_parts os f.front x.rest rest q.front i.0.rest c.0 a.front (after_at turns turns c.0) x.tree.lexeme opens.at c.1.at f.parts opens.parts q.parts c.1.parts a.parts;
       so = of_function x.tree.lexeme sig (function_of x.tree.lexeme opens.at c.1.at x.tree.name f.so f.low f.name opens.is q.so c.1.is a.so);
@@ -97,7 +97,7 @@ declarator_sound turns earlier env t os g e =
     let f = name_sound turns t os i.0 i.1 in
     elim (choose_some m.OpenParen i.0.rest (Some (declares_object env (sizes_after turns env i.0))) (λ rest. function_after turns env i.0.tree rest) g i.2) [
       | inl c ↦ function_so turns earlier env t os c.0 i.0 g f c.1 c.2
-      | inr stop ↦ subst (DeclaratorFront earlier env t os) (some_is (declares_object env (sizes_after turns env i.0)) g stop) (object_so earlier env t os (sizes_after turns env i.0) (after_name turns env t os i.0 f))
+      | inr stop ↦ subst (DeclaratorFront earlier env t os) (same_Some (declares_object env (sizes_after turns env i.0)) g stop) (object_so earlier env t os (sizes_after turns env i.0) (after_name turns env t os i.0 f))
     ]
 
 -- ---- with initialisers
@@ -115,7 +115,7 @@ object_init : (turns : ℕ) (earlier : List DeclTree) (env : Known) (t : TypeTre
 unfolding initialiser_at
 object_init turns earlier env t os a rest o n w g parts so may e =
     let i = bind_some (initialiser_at turns env rest) (λ after. Some (of_decl env (object n w) after)) g e in
-    subst (InitFront earlier env t false os) (some_is (of_decl env (object n w) i.0) g i.2)
+    subst (InitFront earlier env t false os) (same_Some (of_decl env (object n w) i.0) g i.2)
     (elim (choose_some m.Assign rest (Some rest) (λ r. cond_at env turns 400 r >>= λ x. if_true (is_constant env x.tree) (Some x.rest)) i.0 i.1) [
       | inl c ↦
           let j = bind_some (cond_at env turns 400 c.0) (λ x. if_true (is_constant env x.tree) (Some x.rest)) i.0 c.2 in
@@ -123,24 +123,24 @@ object_init turns earlier env t os a rest o n w g parts so may e =
           let h = if_some (is_constant env j.0.tree) (Some j.0.rest) i.0 j.2 in
           record {
             front = a ++ c.1.at ∷ f.front;
-            parts = parts ∙ ap (λ (v : List Lexeme). a ++ v) (c.1.parts ∙ ap (λ (v : List Lexeme). c.1.at ∷ v) (f.parts ∙ ap (λ (v : List Lexeme). f.front ++ v) (some_is j.0.rest i.0 h.1))) ∙ sym (append_assoc a (c.1.at ∷ f.front) i.0);
+            parts = parts ∙ ap (λ (v : List Lexeme). a ++ v) (c.1.parts ∙ ap (λ (v : List Lexeme). c.1.at ∷ v) (f.parts ∙ ap (λ (v : List Lexeme). f.front ++ v) (same_Some j.0.rest i.0 h.1))) ∙ sym (append_assoc a (c.1.at ∷ f.front) i.0);
             so = object_initialised c.1.at so may c.1.is f.spelled_so f.low h.0;
           }
-      | inr stop ↦ record { front = a; parts = parts ∙ ap (λ (v : List Lexeme). a ++ v) (some_is rest i.0 stop); so = object_declared so may }
+      | inr stop ↦ record { front = a; parts = parts ∙ ap (λ (v : List Lexeme). a ++ v) (same_Some rest i.0 stop); so = object_declared so may }
     ])
 
 by_kind : (turns : ℕ) (earlier : List DeclTree) (env known : Known) (t : TypeTree) (typedef_ : Bool) (os a rest : List Lexeme) (d : Declared) (g : After DeclTree) → os ≡ a ++ rest → IsDeclarator earlier env t a d known → declared_by turns earlier typedef_ known rest d.decl ≡ Some g
     → InitFront earlier env t typedef_ os g
 by_kind turns earlier env known t true os a rest d g parts (of_object {w = w} o n so) e =
     let h = if_some (may_be env earlier n (a_type w)) (Some (of_decl (with_typedef env n w) types rest)) g e in
-    subst (InitFront earlier env t true os) (some_is (of_decl (with_typedef env n w) types rest) g h.1) (record { front = a; parts = parts; so = type_declared so (may_be_is env earlier n (a_type w) h.0) })
+    subst (InitFront earlier env t true os) (same_Some (of_decl (with_typedef env n w) types rest) g h.1) (record { front = a; parts = parts; so = type_declared so (may_be_is env earlier n (a_type w) h.0) })
 by_kind turns earlier env known t false os a rest d g parts (of_object {w = w} o n so) e =
     let h = if_some (may_be env earlier n (an_object w)) (initialiser_at turns env rest >>= λ after. Some (of_decl env (object n w) after)) g e in
     object_init turns earlier env t os a rest o n w g parts so (may_be_is env earlier n (an_object w) h.0) h.1
 by_kind turns earlier env known t true os a rest d g parts (of_function o f so) e = absurd cc
 by_kind turns earlier env known t false os a rest d g parts (of_function o f so) e =
     let h = if_some (may_be known earlier f.name (function_type f)) (Some (of_decl known (proto f) rest)) g e in
-    subst (InitFront earlier env t false os) (some_is (of_decl known (proto f) rest) g h.1) (record { front = a; parts = parts; so = function_declared so (may_be_is known earlier f.name (function_type f) h.0) })
+    subst (InitFront earlier env t false os) (same_Some (of_decl known (proto f) rest) g h.1) (record { front = a; parts = parts; so = function_declared so (may_be_is known earlier f.name (function_type f) h.0) })
 
 pub init_declarator_sound : (turns : ℕ) (earlier : List DeclTree) (env : Known) (t : TypeTree) (typedef_ : Bool) (os : List Lexeme) (g : After DeclTree) → init_declarator_at turns earlier env t typedef_ os ≡ Some g → InitFront earlier env t typedef_ os g
 unfolding init_declarator_at
@@ -174,7 +174,7 @@ module _ (turns : ℕ) (earlier : List DeclTree) (env : Known) (t : TypeTree) (t
   inits_step again goes body ds known rest x so parts e =
       elim (choose_some m.Comma rest (Some (record { tree = ds; known = known; rest = rest })) (λ after. again known ds after) x e) [
         | inl c ↦ goes (body ++ c.1.at ∷ []) ds known c.0 x (comma_declarator c.1.at so c.1.is) (parts ∙ ap (λ (v : List Lexeme). body ++ v) c.1.parts ∙ sym (append_assoc body (c.1.at ∷ []) c.0)) c.2
-        | inr stop ↦ subst (InitsFront earlier env t typedef_ whole) (some_is (record { tree = ds; known = known; rest = rest }) x stop) (record { body = body; parts = parts; so = so })
+        | inr stop ↦ subst (InitsFront earlier env t typedef_ whole) (same_Some (record { tree = ds; known = known; rest = rest }) x stop) (record { body = body; parts = parts; so = so })
       ]
 
   pub inits_sound : (n : ℕ) → GoesInits (init_declarators_at turns earlier t typedef_ n)
@@ -194,7 +194,7 @@ pub record DeclarationFront (earlier : List DeclTree) (env : Known) (os : List L
   pub so : IsDeclaration earlier env front g.tree g.known
 
 not_both : (a b : Bool) → not (a && not b) ≡ true → (a && not b) ≡ false
-not_both a b e = is_not (a && not b) e
+not_both a b e = not_true (a && not b) e
 
 some_sound : (turns : ℕ) (earlier : List DeclTree) (env : Known) (os : List Lexeme) (s : After Specs) (g : After (List DeclTree)) → SpecsFront earlier env os s → some_declarators turns earlier s ≡ Some g → DeclarationFront earlier env os g
 some_sound turns earlier env os s g f e =
@@ -204,7 +204,7 @@ some_sound turns earlier env os s g f e =
     let d = inits_sound turns earlier s.known s.tree.ctype s.tree.said.typedef_ s.rest turns [] [] s.known s.rest i.0 no_declarator refl i.1 in
     let c = wanted_some m.Semicolon i.0.rest (λ after. if_true (not (s.tree.said.attributed && not (list_all is_function i.0.tree))) (Some (made i.0 after))) g i.2 in
     let h = if_some (not (s.tree.said.attributed && not (list_all is_function i.0.tree))) (Some (made i.0 c.0)) g c.2 in
-    subst (DeclarationFront earlier env os) (some_is (made i.0 c.0) g h.1) (record {
+    subst (DeclarationFront earlier env os) (same_Some (made i.0 c.0) g h.1) (record {
       front = (f.front ++ d.body) ++ c.1.at ∷ [];
       parts = f.parts ∙ ap (λ (v : List Lexeme). f.front ++ v) (d.parts ∙ ap (λ (v : List Lexeme). d.body ++ v) c.1.parts) ∙ sym (append_assoc f.front d.body (c.1.at ∷ c.0)) ∙ sym (append_assoc (f.front ++ d.body) (c.1.at ∷ []) c.0);
       so = declares c.1.at f.so d.so (not_both s.tree.said.attributed (list_all is_function i.0.tree) h.0) c.1.is;
@@ -217,10 +217,10 @@ after_specs_sound turns earlier env os s g f e =
     elim (choose_some m.Semicolon s.rest (some_declarators turns earlier s) (λ after. if_true (not s.tree.said.attributed) (Some (made after))) g e) [
       | inl c ↦
           let h = if_some (not s.tree.said.attributed) (Some (made c.0)) g c.2 in
-          subst (DeclarationFront earlier env os) (some_is (made c.0) g h.1) (record {
+          subst (DeclarationFront earlier env os) (same_Some (made c.0) g h.1) (record {
             front = f.front ++ c.1.at ∷ [];
             parts = f.parts ∙ ap (λ (v : List Lexeme). f.front ++ v) c.1.parts ∙ sym (append_assoc f.front (c.1.at ∷ []) c.0);
-            so = declares_types c.1.at f.so (is_not s.tree.said.attributed h.0) c.1.is;
+            so = declares_types c.1.at f.so (not_true s.tree.said.attributed h.0) c.1.is;
           })
       | inr more ↦ some_sound turns earlier env os s g f more
     ]
@@ -235,7 +235,7 @@ declaration_sound turns earlier env os g e =
 
 specs_or : (turns : ℕ) (earlier : List DeclTree) (env : Known) (os : List Lexeme) (o : Option (After Specs)) (g : After Specs) → specs_at turns earlier turns env os ≡ o → or_else o (plain_specs_at turns env os) ≡ Some g → SpecsFront earlier env os g
 specs_or turns earlier env os None g is e = plain_specs_sound turns earlier env os g e
-specs_or turns earlier env os (Some x) g is e = subst (SpecsFront earlier env os) (some_is x g e) (specs_sound turns earlier turns env os x is)
+specs_or turns earlier env os (Some x) g is e = subst (SpecsFront earlier env os) (same_Some x g e) (specs_sound turns earlier turns env os x is)
 
 pub front_specs_sound : (turns : ℕ) (earlier : List DeclTree) (env : Known) (os : List Lexeme) (g : After Specs) → front_specs_at turns earlier env os ≡ Some g → SpecsFront earlier env os g
 unfolding front_specs_at
@@ -243,11 +243,11 @@ front_specs_sound turns earlier env os g e = specs_or turns earlier env os (spec
 
 object_or : (turns : ℕ) (earlier : List DeclTree) (env : Known) (t : TypeTree) (os : List Lexeme) (o : Option (Got Named)) (g : After Declared) → object_at turns env t os ≡ o → object_front env o ≡ Some g → DeclaratorFront earlier env t os g
 object_or turns earlier env t os None g is e = absurd cc
-object_or turns earlier env t os (Some x) g is e = subst (DeclaratorFront earlier env t os) (some_is (declares_object env x) g e) (object_so earlier env t os x (object_sound turns env t os x is))
+object_or turns earlier env t os (Some x) g is e = subst (DeclaratorFront earlier env t os) (same_Some (declares_object env x) g e) (object_so earlier env t os x (object_sound turns env t os x is))
 
 declarator_or : (turns : ℕ) (earlier : List DeclTree) (env : Known) (t : TypeTree) (os : List Lexeme) (o : Option (After Declared)) (g : After Declared) → declarator_at turns env t os ≡ o → or_else o (object_front env (object_at turns env t os)) ≡ Some g → DeclaratorFront earlier env t os g
 declarator_or turns earlier env t os None g is e = object_or turns earlier env t os (object_at turns env t os) g refl e
-declarator_or turns earlier env t os (Some x) g is e = subst (DeclaratorFront earlier env t os) (some_is x g e) (declarator_sound turns earlier env t os x is)
+declarator_or turns earlier env t os (Some x) g is e = subst (DeclaratorFront earlier env t os) (same_Some x g e) (declarator_sound turns earlier env t os x is)
 
 pub front_declarator_sound : (turns : ℕ) (earlier : List DeclTree) (env : Known) (t : TypeTree) (os : List Lexeme) (g : After Declared) → front_declarator_at turns env t os ≡ Some g → DeclaratorFront earlier env t os g
 unfolding front_declarator_at

@@ -2,6 +2,7 @@
 use Rattle.std.proofs.Common.{◌≡◌, ℕ, zero, suc, ◌+◌, ◌-◌, ◌^◌, ◌<◌, ◌≤◌, Bool, true, false, ◌&&◌, List, [], ◌∷◌, ◌++◌, length, Option, Some, None, refl, sym, ap, ◌∙◌, subst, append_assoc, append-nil, arith, length-append, inl, inr, ◌⊎◌}
 use Rattle.std.proofs.lemmas.Bool.Decides.{nat_tests}
 use Rattle.std.specs.Prelude.{ℤ, pos, nat_abs, nat_le}
+use Rattle.std.proofs.lemmas.Option.{same_Some}
 use Rattle.cx_ctree.specs.Types.{TypeTree, pointer}
 use Rattle.cx_ctree.specs.Path.{type_path, expr_path}
 use Rattle.cx_ctree.specs.Exprs.{ExprTree}
@@ -12,7 +13,7 @@ use Rattle.cx_cname.specs.Known.{Known, is_complete}
 use Rattle.cx_cconst.specs.Constants.{constant_in}
 use Rattle.cx_cexpr.specs.Expressions.{AreSkipped, IsCond}
 use Rattle.cx_cexpr.specs.Reading.{skip_at, cond_at, named}
-use Rattle.cx_cexpr.proofs.Steps.{bind_some, some_is, named_some}
+use Rattle.cx_cexpr.proofs.Steps.{bind_some, named_some}
 use Rattle.cx_cexpr.proofs.TypeSound.{skip_sound}
 use Rattle.cx_cexpr.proofs.Sound.{cond_sound}
 use Rattle.cx_cword.specs.declared.mark.Mark.TheVariants as m
@@ -51,7 +52,7 @@ pointers_sound (suc n) d t os g e =
             so = stars_first t c.1.at s.front c.1.is s.words f.so;
             low = f.low;
           }
-      | inr done ↦ subst (Pointers t d os) (some_is (record { tree = t; rest = os }) g done) (record { front = []; parts = refl; so = no_star; low = low_is t d h.0 })
+      | inr done ↦ subst (Pointers t d os) (same_Some (record { tree = t; rest = os }) g done) (record { front = []; parts = refl; so = no_star; low = low_is t d h.0 })
     ]
 
 -- ---- sizes
@@ -82,7 +83,7 @@ pub record Size (env : Known) (os : List Lexeme) (g : Got ℕ) : Type 0 where
 
 size_by_some : (rest : List Lexeme) (o : Option ℤ) (g : Got ℕ) → size_by rest o ≡ Some g → (v : ℤ) × (o ≡ Some v) × InSize v × (◌≡◌ {A = Got ℕ} (record { tree = nat_abs v; rest = rest }) g)
 size_by_some rest None g e = absurd cc
-size_by_some rest (Some v) g e = let h = if_some (in_size v) (Some (record { tree = nat_abs v; rest = rest })) g e in (v, refl, size_is v h.0, some_is _ g h.1)
+size_by_some rest (Some v) g e = let h = if_some (in_size v) (Some (record { tree = nat_abs v; rest = rest })) g e in (v, refl, size_is v h.0, same_Some _ g h.1)
 
 size_sound : (turns : ℕ) (env : Known) (os : List Lexeme) (g : Got ℕ) → size_at turns env os ≡ Some g → Size env os g
 unfolding size_at
@@ -177,7 +178,7 @@ name_sound turns t os g e =
     let i = bind_some (pointers_at turns 400 t os) (λ x. named x.rest (go x)) g e in
     let f = pointers_sound turns 400 t os i.0 i.1 in
     let n = named_some i.0.rest (go i.0) g i.2 in
-    subst (NamedFront t os) (some_is (record { tree = record { name = n.1; lexeme = n.0; ctype = i.0.tree }; rest = n.2 }) g n.5) (record {
+    subst (NamedFront t os) (same_Some (record { tree = record { name = n.1; lexeme = n.0; ctype = i.0.tree }; rest = n.2 }) g n.5) (record {
       front = f.front;
       parts = f.parts ∙ ap (λ (v : List Lexeme). f.front ++ v) n.3;
       so = f.so;
@@ -210,4 +211,4 @@ pub object_sound : (turns : ℕ) (env : Known) (t : TypeTree) (os : List Lexeme)
 unfolding object_at
 object_sound turns env t os g e =
     let i = bind_some (name_at turns t os) (λ x. Some (sizes_after turns env x)) g e in
-    subst (ObjectFront env t os) (some_is (sizes_after turns env i.0) g i.2) (after_name turns env t os i.0 (name_sound turns t os i.0 i.1))
+    subst (ObjectFront env t os) (same_Some (sizes_after turns env i.0) g i.2) (after_name turns env t os i.0 (name_sound turns t os i.0 i.1))

@@ -2,7 +2,9 @@
 use Rattle.std.proofs.Common.{◌≡◌, ℕ, zero, suc, Bool, true, false, ◌&&◌, List, [], ◌∷◌, ◌++◌, Option, Some, None, refl, sym, ap, ◌∙◌, subst, append_assoc, arith, inl, inr, ◌⊎◌}
 use Rattle.std.proofs.lemmas.Bool.Decides.{nat_tests}
 use Rattle.std.specs.Prelude.{ℤ, pos, ◌+ℤ◌, not, is_some}
+use Rattle.std.proofs.lemmas.Option.{same_Some}
 use Rattle.cx_base.specs.Number.{InRange, half_of}
+use Rattle.cx_base.proofs.General.{both_true}
 use Rattle.cx_ctree.specs.Decls.{DeclTree}
 use Rattle.cx_cword.specs.declared.word.Punctuator.TheVariants as p
 use Rattle.cx_cword.specs.declared.lexeme.Lexeme.{Lexeme}
@@ -11,7 +13,7 @@ use Rattle.cx_cname.specs.Known.{Known, meaning, with_constant}
 use Rattle.cx_cname.specs.Meanings.{is_new}
 use Rattle.cx_cconst.specs.Constants.{constant_in}
 use Rattle.cx_cexpr.specs.Reading.{cond_at}
-use Rattle.cx_cexpr.proofs.Steps.{bind_some, some_is, named_some}
+use Rattle.cx_cexpr.proofs.Steps.{bind_some, named_some}
 use Rattle.cx_cexpr.proofs.Sound.{cond_sound}
 use Rattle.cx_cword.specs.declared.mark.Mark.TheVariants as m
 use Rattle.cx_cdecl.specs.Declarations.{IsEnumerator, enumerator_next, enumerator_equal, AreEnumerators, first_enumerator, also_enumerator, IsEnumList, enum_list, enum_list_comma}
@@ -26,10 +28,6 @@ pub new_is : {A : Type 0} (o : Option A) → not (is_some o) ≡ true → o ≡ 
 new_is None e = refl
 new_is (Some x) e = absurd cc
 
-pub and_parts : (a b : Bool) → (a && b) ≡ true → (a ≡ true) × (b ≡ true)
-and_parts true b e = (refl, e)
-and_parts false b e = absurd cc
-
 -- ---- one enumerator
 
 -- what stands after the name
@@ -40,7 +38,7 @@ record Valued (env : Known) (next : ℤ) (o : Lexeme) (n : ℕ) (os : List Lexem
 
 value_some : (rest : List Lexeme) (o : Option ℤ) (g : Got ℤ) → value_by rest o ≡ Some g → (v : ℤ) × (o ≡ Some v) × (◌≡◌ {A = Got ℤ} (record { tree = v; rest = rest }) g)
 value_some rest None g e = absurd cc
-value_some rest (Some v) g e = (v, refl, some_is _ g e)
+value_some rest (Some v) g e = (v, refl, same_Some _ g e)
 
 value_sound : (turns : ℕ) (env : Known) (next : ℤ) (o : Lexeme) (n : ℕ) (os : List Lexeme) (g : Got ℤ) → IsName n o → value_at turns env next os ≡ Some g → Valued env next o n os g
 unfolding value_at
@@ -55,7 +53,7 @@ value_sound turns env next o n os g called e =
             parts = c.1.parts ∙ ap (λ (u : List Lexeme). c.1.at ∷ u) f.parts;
             so = enumerator_equal o c.1.at n called c.1.is f.spelled_so f.low v.1;
           })
-      | inr done ↦ subst (Valued env next o n os) (some_is (record { tree = next; rest = os }) g done) (record { front = []; parts = refl; so = enumerator_next o n called })
+      | inr done ↦ subst (Valued env next o n os) (same_Some (record { tree = next; rest = os }) g done) (record { front = []; parts = refl; so = enumerator_next o n called })
     ]
 
 -- an enumerator, whose name is new
@@ -72,8 +70,8 @@ enumerator_some : (earlier : List DeclTree) (env : Known) (next : ℤ) (o : Lexe
 enumerator_some earlier env next o os n v g f e =
     let made : After ℤ = record { tree = v.tree; known = with_constant env n v.tree; rest = v.rest } in
     let t = if_some (in_int v.tree && is_new env earlier n) (Some made) g e in
-    let both = and_parts (in_int v.tree) (is_new env earlier n) t.0 in
-    subst (EnumeratorFront earlier env next (o ∷ os)) (some_is made g t.1) (record {
+    let both = both_true (in_int v.tree) (is_new env earlier n) t.0 in
+    subst (EnumeratorFront earlier env next (o ∷ os)) (same_Some made g t.1) (record {
       front = o ∷ f.front;
       name = n;
       parts = ap (λ (u : List Lexeme). o ∷ u) f.parts;
@@ -124,7 +122,7 @@ module _ (turns : ℕ) (earlier : List DeclTree) (env : Known) (whole : List Lex
       → AreEnumerators earlier env a v known → Is p.Comma o → whole ≡ a ++ o ∷ rest → choose m.CloseBrace rest (again known (v +ℤ pos 1) rest) (λ after. Some (done known rest)) ≡ Some x → Enumerators earlier env whole x
   after_comma again goes a v known o rest x all is parts e =
       elim (choose_some m.CloseBrace rest (again known (v +ℤ pos 1) rest) (λ after. Some (done known rest)) x e) [
-        | inl c ↦ subst (Enumerators earlier env whole) (some_is (done known rest) x c.2) (record { body = a; tail = o ∷ []; last = v; parts = parts; so = all; comma = inr (o, refl, is) })
+        | inl c ↦ subst (Enumerators earlier env whole) (same_Some (done known rest) x c.2) (record { body = a; tail = o ∷ []; last = v; parts = parts; so = all; comma = inr (o, refl, is) })
         | inr more ↦ goes (a ++ o ∷ []) (v +ℤ pos 1) known rest x (comma_before o all is) (parts ∙ sym (append_assoc a (o ∷ []) rest)) more
       ]
 
@@ -133,7 +131,7 @@ module _ (turns : ℕ) (earlier : List DeclTree) (env : Known) (whole : List Lex
   step again goes a y x all parts e =
       elim (choose_some m.Comma y.rest (Some (done y.known y.rest)) (λ rest. choose m.CloseBrace rest (again y.known (y.tree +ℤ pos 1) rest) (λ after. Some (done y.known rest))) x e) [
         | inl c ↦ after_comma again goes a y.tree y.known c.1.at c.0 x all c.1.is (parts ∙ ap (λ (u : List Lexeme). a ++ u) c.1.parts) c.2
-        | inr stop ↦ subst (Enumerators earlier env whole) (some_is (done y.known y.rest) x stop) (record { body = a; tail = []; last = y.tree; parts = parts; so = all; comma = inl refl })
+        | inr stop ↦ subst (Enumerators earlier env whole) (same_Some (done y.known y.rest) x stop) (record { body = a; tail = []; last = y.tree; parts = parts; so = all; comma = inl refl })
       ]
 
   pub enumerators_sound : (n : ℕ) → Goes (enumerators_at turns earlier n)
@@ -173,4 +171,4 @@ enum_list_sound turns earlier env o os x opens e =
     let i = bind_some (enumerators_at turns earlier turns env (pos 0) os) (λ x. wanted m.CloseBrace x.rest (λ after. Some (done x.known after))) x e in
     let f = enumerators_sound turns earlier env os turns [] (pos 0) env os i.0 none_before refl i.1 in
     let c = wanted_some m.CloseBrace i.0.rest (λ after. Some (done i.0.known after)) x i.2 in
-    subst (EnumList earlier env o os) (some_is (done i.0.known c.0) x c.2) (close_list earlier env o os c.0 i.0 c.1 opens f f.tail refl f.comma)
+    subst (EnumList earlier env o os) (same_Some (done i.0.known c.0) x c.2) (close_list earlier env o os c.0 i.0 c.1 opens f f.tail refl f.comma)

@@ -3,6 +3,7 @@ use Rattle.std.proofs.Common.{◌≡◌, ℕ, zero, suc, ◌+◌, ◌≤◌, tru
 use Rattle.std.proofs.lemmas.Bool.Decides.{nat_tests}
 use Rattle.std.specs.Prelude.{ℤ, pos, ◌+ℤ◌, not}
 use Rattle.cx_base.specs.Number.{InRange, half_of}
+use Rattle.cx_base.proofs.General.{true_both}
 use Rattle.cx_ctree.specs.Exprs.{ExprTree}
 use Rattle.cx_ctree.specs.Path.{expr_path}
 use Rattle.cx_ctree.specs.Decls.{DeclTree}
@@ -22,7 +23,7 @@ use Rattle.cx_cword.specs.declared.mark.Mark.{Mark}
 use Rattle.cx_cword.specs.declared.mark.Mark.TheVariants as m
 use Rattle.cx_cdecl.specs.Declarations.{IsEnumerator, enumerator_next, enumerator_equal, AreEnumerators, first_enumerator, also_enumerator, IsEnumList, enum_list, enum_list_comma}
 use Rattle.cx_cdecl.specs.Reading.{Got, After, wanted, choose, in_int, value_by, value_at, enumerator_by, enumerator_at, no_more, enumerators_by, enumerators_at, enumerators_in}
-use Rattle.cx_cdecl.proofs.Follows.{no_mark, ends_item, is_ending, item_closes, item_assign, closes_ends, name_no_mark, both_so, wanted_goes, choose_goes, choose_other, named_goes, if_goes, bind_goes, Room}
+use Rattle.cx_cdecl.proofs.Follows.{no_mark, ends_item, is_ending, item_closes, item_assign, closes_ends, name_no_mark, wanted_goes, choose_goes, choose_other, named_goes, if_goes, bind_goes, Room}
 use Rattle.cx_cdecl.proofs.Grows.{Grows, grows_constant, grows_then, new_so}
 use Rattle.cx_cword.specs.Marks.{fits}
 
@@ -67,7 +68,7 @@ enumerator_there earlier {env} {next} {front} {n} {v} few h range new turns rest
     ap (λ (u : List Lexeme). named u go) parts
     ∙ named_goes f.o n (f.tail ++ rest) go f.is
     ∙ bind_goes (value_at turns env next (f.tail ++ rest)) (enumerator_by earlier env n) (record { tree = v; rest = rest }) (f.reads turns rest ends (let e = ap length parts in omega (arith, room, e)))
-    ∙ if_goes (in_int v && is_new env earlier n) (Some (record { tree = v; known = with_constant env n v; rest = rest })) (both_so (in_int v) (is_new env earlier n) (int_so v range) (new_so env earlier n new))
+    ∙ if_goes (in_int v && is_new env earlier n) (Some (record { tree = v; known = with_constant env n v; rest = rest })) (true_both (in_int v) (is_new env earlier n) (int_so v range) (new_so env earlier n new))
 
 enumerator_filled : {env : Known} {next : ℤ} {front : List Lexeme} {n : ℕ} {v : ℤ} → Few env → IsEnumerator env next front n v → 1 ≤ length front
 enumerator_filled few h = let f = valued few h in let e = ap length f.parts in omega (arith, e)

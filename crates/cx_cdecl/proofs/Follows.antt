@@ -1,6 +1,7 @@
 -- Which lexemes may follow what is derived, and steps of reading that go on.
 use Rattle.std.proofs.Common.{◌≡◌, ℕ, ◌+◌, ◌*◌, ◌≤◌, length, Bool, true, false, cond, List, [], ◌∷◌, Option, Some, None, refl, ap, ◌∙◌, arith}
 use Rattle.std.specs.Prelude.{not, ◌&&◌}
+use Rattle.cx_base.proofs.General.{not_true, true_both, both_true}
 use Rattle.cx_cword.specs.declared.word.Keyword.{Keyword}
 use Rattle.cx_cword.specs.declared.word.Keyword.TheVariants as k
 use Rattle.cx_cword.specs.declared.word.Punctuator.{Punctuator}
@@ -80,14 +81,6 @@ ends_type os = no_keyword os && no_mark m.OpenBrace os
 
 -- ---- what follows from that
 
-pub not_true : (b : Bool) → not b ≡ true → b ≡ false
-not_true true e = absurd cc
-not_true false e = refl
-
-pub both_so : (a b : Bool) → a ≡ true → b ≡ true → (a && b) ≡ true
-both_so true b e f = f
-both_so false b e f = absurd cc
-
 pub record Closing (kind : LexemeKind) : Type 0 where
   pub word : is_keyword kind ≡ false
   pub star : fits m.Star kind ≡ false
@@ -134,7 +127,7 @@ closes_brace [] e = refl
 closes_brace (o ∷ os) e = ap not (closing o.kind e).brace
 
 pub closes_type : (os : List Lexeme) → closes os ≡ true → ends_type os ≡ true
-closes_type os e = both_so (no_keyword os) (no_mark m.OpenBrace os) (closes_keyword os e) (closes_brace os e)
+closes_type os e = true_both (no_keyword os) (no_mark m.OpenBrace os) (closes_keyword os e) (closes_brace os e)
 
 pub closes_ends : (os : List Lexeme) → closes os ≡ true → Ends 11 os
 closes_ends [] e = tt
@@ -218,14 +211,10 @@ abbrev pub ends_item : List Lexeme → Bool
 ends_item [] = true
 ends_item (o ∷ os) = is_ending o.kind
 
-and_two : (a b : Bool) → (a && b) ≡ true → (a ≡ true) × (b ≡ true)
-and_two true b e = (refl, e)
-and_two false b e = absurd cc
-
 pub item_closes : (os : List Lexeme) → ends_item os ≡ true → closes os ≡ true
 item_closes [] e = refl
-item_closes (o ∷ os) e = (and_two (is_closed_by o.kind) (not (fits m.Assign o.kind)) e).0
+item_closes (o ∷ os) e = (both_true (is_closed_by o.kind) (not (fits m.Assign o.kind)) e).0
 
 pub item_assign : (os : List Lexeme) → ends_item os ≡ true → no_mark m.Assign os ≡ true
 item_assign [] e = refl
-item_assign (o ∷ os) e = (and_two (is_closed_by o.kind) (not (fits m.Assign o.kind)) e).1
+item_assign (o ∷ os) e = (both_true (is_closed_by o.kind) (not (fits m.Assign o.kind)) e).1

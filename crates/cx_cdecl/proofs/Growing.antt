@@ -1,5 +1,6 @@
 -- The names that the words of a type declare are few, and the types of members are complete.
 use Rattle.std.proofs.Common.{◌≡◌, ◌+◌, ◌≤◌, Bool, true, false, List, [], ◌∷◌, ◌++◌, length, length-append, Some, None, refl, arith}
+use Rattle.cx_base.proofs.General.{true_both}
 use Rattle.cx_ctree.specs.Types.{TypeTree}
 use Rattle.cx_ctree.specs.Decls.{MemberTree, DeclTree}
 use Rattle.cx_cword.specs.declared.lexeme.Lexeme.{Lexeme}
@@ -7,7 +8,6 @@ use Rattle.cx_cname.specs.Known.{Known, with_tag, with_members, with_enum, is_co
 use Rattle.cx_cdecl.proofs.TagSound.{got_last}
 use Rattle.cx_cdecl.specs.Declarations.{Beside, tag_declared, IsEnumList, enum_list, enum_list_comma, IsSpecifier, declared_before, new_tag, tag_members, members_alone, enum_named, enum_alone, AreSpecs, specs, IsMemberList, member_list, AreMembers, first_members, also_members, IsMemberLine, member_line, AreMemberNames, first_name, also_name}
 use Rattle.cx_cdecl.proofs.EnumThere.{enumerators_grow}
-use Rattle.cx_cdecl.proofs.Follows.{both_so}
 use Rattle.cx_cdecl.proofs.Grows.{Grows, grows_none, grows_then, grows_more, grows_tag, grows_members, place_apart, apart_before, past_apart, no_members, grows_declared, grows_enum, are_complete, members_grow, complete_both}
 use Rattle.cx_cname.specs.Meanings.{has_members}
 
@@ -46,8 +46,8 @@ mutual
   line_grows (member_line {env = env} {known = known} {a = a} {c = c} o h e f i is) = grows_more env known (length a) (length ((a ++ c) ++ o ∷ [])) (specs_grow h) (let e = length-append (a ++ c) (o ∷ []) in let f = length-append a c in omega (arith, e, f))
 
 pub names_complete : {env : Known} {t : TypeTree} {a : List Lexeme} {ms : List MemberTree} → AreMemberNames env t a ms → are_complete env ms ≡ true
-names_complete {env} (first_name {w = w} h e) = both_so (is_complete env w) true e refl
-names_complete {env} (also_name {w = w} {ms = ms} {n = n} m h is i e) = complete_both env ms (record { name = n; ctype = w } ∷ []) (names_complete h) (both_so (is_complete env w) true e refl)
+names_complete {env} (first_name {w = w} h e) = true_both (is_complete env w) true e refl
+names_complete {env} (also_name {w = w} {ms = ms} {n = n} m h is i e) = complete_both env ms (record { name = n; ctype = w } ∷ []) (names_complete h) (true_both (is_complete env w) true e refl)
 
 line_complete : {earlier : List DeclTree} {env known : Known} {a : List Lexeme} {ms : List MemberTree} → IsMemberLine earlier env a ms known → are_complete known ms ≡ true
 line_complete (member_line o h e f i is) = names_complete i

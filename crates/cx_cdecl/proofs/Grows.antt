@@ -7,6 +7,7 @@ use Rattle.std.proofs.lemmas.List.Sums.{prefix_len_stops}
 use Rattle.std.specs.Prelude.{not, is_some, slice_get, slice_set, option_map, MatchOption, ⊤}
 use Rattle.std.specs.List.{list_all, list_any, prefix_len, position_or_len}
 use Rattle.std.specs.Option.{option_map_or}
+use Rattle.cx_base.proofs.General.{both_true, true_both}
 use Rattle.cx_ctree.specs.Types.{TypeTree, void, int, pointer, array, tag}
 use Rattle.cx_ctree.specs.Path.{greatest}
 use Rattle.cx_ctree.specs.Tags.{rank_of}
@@ -18,7 +19,6 @@ use Rattle.cx_cname.proofs.Same.{same_itself}
 use Rattle.cx_cexpr.specs.Reading.{Few, same_kind}
 use Rattle.cx_cdecl.specs.Declarations.{tag_declared}
 use Rattle.cx_cdecl.specs.Reading.{is_kind, names_member, are_distinct}
-use Rattle.cx_cdecl.proofs.Follows.{both_so}
 
 -- ---- names
 
@@ -155,21 +155,17 @@ complete_grows env known k g (tag at) e = rank_test (rank_of env.tags at) (rank_
 abbrev pub are_complete : Known → List MemberTree → Bool
 are_complete env ms = list_all (λ m. is_complete env m.ctype) ms
 
-and_two : (a b : Bool) → (a && b) ≡ true → (a ≡ true) × (b ≡ true)
-and_two true b e = (refl, e)
-and_two false b e = absurd cc
-
 pub members_grow : (env known : Known) (k : ℕ) → Grows env known k → (ms : List MemberTree) → are_complete env ms ≡ true → are_complete known ms ≡ true
 members_grow env known k g [] e = refl
 members_grow env known k g (m ∷ ms) e =
-    let b = and_two (is_complete env m.ctype) (are_complete env ms) e in
-    both_so (is_complete known m.ctype) (are_complete known ms) (complete_grows env known k g m.ctype b.0) (members_grow env known k g ms b.1)
+    let b = both_true (is_complete env m.ctype) (are_complete env ms) e in
+    true_both (is_complete known m.ctype) (are_complete known ms) (complete_grows env known k g m.ctype b.0) (members_grow env known k g ms b.1)
 
 pub complete_both : (env : Known) (ms ns : List MemberTree) → are_complete env ms ≡ true → are_complete env ns ≡ true → are_complete env (ms ++ ns) ≡ true
 complete_both env [] ns e f = f
 complete_both env (m ∷ ms) ns e f =
-    let b = and_two (is_complete env m.ctype) (are_complete env ms) e in
-    both_so (is_complete env m.ctype) (are_complete env (ms ++ ns)) b.0 (complete_both env ms ns b.1 f)
+    let b = both_true (is_complete env m.ctype) (are_complete env ms) e in
+    true_both (is_complete env m.ctype) (are_complete env (ms ++ ns)) b.0 (complete_both env ms ns b.1 f)
 
 -- ---- tests
 
@@ -178,7 +174,7 @@ new_so env earlier n e = ap (λ (o : Option Meaning). not (is_some o)) e
 
 types_themselves : (ts : List TypeTree) → same_types ts ts ≡ true
 types_themselves [] = refl
-types_themselves (t ∷ ts) = both_so (same_type t t) (same_types ts ts) (same_itself t) (types_themselves ts)
+types_themselves (t ∷ ts) = true_both (same_type t t) (same_types ts ts) (same_itself t) (types_themselves ts)
 
 may_by : (o : Option Meaning) (m : Meaning) → same_meaning m m ≡ true → MatchOption o ⊤ (λ old. old ≡ m) → option_map_or (λ old. same_meaning old m) o true ≡ true
 may_by None m e h = refl
@@ -191,7 +187,7 @@ pub may_be_object : (env : Known) (earlier : List DeclTree) (n : ℕ) (t : TypeT
 may_be_object env earlier n t h = may_by (meaning env earlier n) (an_object t) (same_itself t) h
 
 pub may_be_function : (env : Known) (earlier : List DeclTree) (n : ℕ) (t : TypeTree) (ts : List TypeTree) → MayBe env earlier n (a_function t ts) → may_be env earlier n (a_function t ts) ≡ true
-may_be_function env earlier n t ts h = may_by (meaning env earlier n) (a_function t ts) (both_so (same_type t t) (same_types ts ts) (same_itself t) (types_themselves ts)) h
+may_be_function env earlier n t ts h = may_by (meaning env earlier n) (a_function t ts) (true_both (same_type t t) (same_types ts ts) (same_itself t) (types_themselves ts)) h
 
 kind_self : (union : Bool) → same_kind union (Some union) ≡ true
 kind_self true = refl
@@ -217,11 +213,11 @@ differ n (m ∷ ms) h =
 pub distinct_so : (ms : List MemberTree) → AllPairs (λ x y. x.name ≢ y.name) ms → are_distinct ms ≡ true
 distinct_so [] h = refl
 distinct_so (m ∷ ms) h =
-    both_so (not (names_member m.name ms)) (are_distinct ms) (ap not (differ m.name ms (λ j d k. h 0 (suc j) d (omega arith) (omega (arith, k)))))
+    true_both (not (names_member m.name ms)) (are_distinct ms) (ap not (differ m.name ms (λ j d k. h 0 (suc j) d (omega arith) (omega (arith, k)))))
     (distinct_so ms (λ i j d less k. h (suc i) (suc j) d (omega (arith, less)) (omega (arith, k))))
 
 pub no_members : (env : Known) (at : ℕ) (t : TagTree) → slice_get env.tags at ≡ Some t → t.members ≡ None → has_members env at ≡ false
 no_members env at t e f = ap (λ (o : Option TagTree). option_map_or (λ t. is_some t.members) o false) e ∙ ap (λ (o : Option (List MemberTree)). is_some o) f
 
 pub may_have_so : (env : Known) (at : ℕ) (ms : List MemberTree) → has_members env at ≡ false → are_complete env ms ≡ true → may_have env at ms ≡ true
-may_have_so env at ms e f = both_so (not (has_members env at)) (are_complete env ms) (ap not e) f
+may_have_so env at ms e f = true_both (not (has_members env at)) (are_complete env ms) (ap not e) f

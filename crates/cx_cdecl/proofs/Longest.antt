@@ -4,6 +4,7 @@ use Rattle.std.specs.Prelude.{nat_le}
 use Rattle.std.proofs.lemmas.Bool.Decides.{nat_tests}
 use Rattle.std.proofs.lemmas.List.{take-append-drop}
 use Rattle.std.proofs.Math.Seq.{take-append_seam, take-length}
+use Rattle.std.proofs.lemmas.Option.{none-some, same_Some}
 use Rattle.cx_cword.specs.declared.lexeme.Lexeme.{Lexeme}
 use Rattle.cx_cdecl.specs.Derived.{open_after, deepest, AreShallow}
 use Rattle.cx_cdecl.specs.Reading.{shallow_at}
@@ -80,12 +81,6 @@ pub record Longest {A : Type 0} (D : List Lexeme → A → Type 0) (os : List Le
   pub only : (y : A) → D (take n os) y → AreShallow (take n os) → y ≡ x
   pub longest : (m : ℕ) (y : A) → m ≤ length os → D (take m os) y → AreShallow (take m os) → m ≤ n
 
-not_some : {A : Type 0} (x : A) → None ≡ Some x → ⊥
-not_some x e = absurd cc
-
-one_some : {A : Type 0} (x y : A) → Some x ≡ Some y → x ≡ y
-one_some x y e = cc
-
 within : (m n : ℕ) → (m ≤ n) ⊎ (n ≤ m)
 within m n = elim (nat_le m n) as (λ b. nat_le m n ≡ b → (m ≤ n) ⊎ (n ≤ m)) [ true ↦ λ e. inl (le_of m n e) | false ↦ λ e. inr (ge_of m n e) ] refl
 
@@ -119,21 +114,21 @@ module _ {A : Type 0} (D : List Lexeme → A → Type 0) (os : List Lexeme) (r :
         shallow = shallow;
         only = λ y d s.
             let h = from_front goes n y same.0 d s in
-            let e : h.1.g ≡ g = one_some h.1.g g (sym h.1.is ∙ is) in
+            let e : h.1.g ≡ g = same_Some h.1.g g (sym h.1.is ∙ is) in
             let far : length h.1.g.rest ≡ length (drop n cut) = ap (λ (t : Taken A). length t.rest) e ∙ omega (arith, long, length-drop n cut) in
             h.1.same far ∙ ap (λ (t : Taken A). t.tree) e;
         longest = λ m y le d s.
             let h = from_front goes m y le d s in
-            let e : length h.1.g.rest ≡ length g.rest = ap (λ (t : Taken A). length t.rest) (one_some h.1.g g (sym h.1.is ∙ is)) in
+            let e : length h.1.g.rest ≡ length g.rest = ap (λ (t : Taken A). length t.rest) (same_Some h.1.g g (sym h.1.is ∙ is)) in
             omega (arith, long, h.0, h.1.less, e, length-drop m cut);
       }
 
   pub front_none : r ≡ None → ((a rest : List Lexeme) (x : A) → shallow_at 0 os ≡ a ++ rest → D a x → Goes r x rest) → (m : ℕ) (x : A) → D (take m os) x → AreShallow (take m os) → ⊥
   front_none none goes m x d s =
       elim (within m (length os)) [
-        | inl le ↦ let h = from_front goes m x le d s in not_some h.1.g (sym none ∙ h.1.is)
+        | inl le ↦ let h = from_front goes m x le d s in none-some h.1.g (sym none ∙ h.1.is)
         | inr ge ↦
             let e : take m os ≡ take (length os) os = take_past m os ge ∙ sym (take-length os) in
             let h = from_front goes (length os) x (omega arith) (subst (λ (a : List Lexeme). D a x) e d) (subst (λ (a : List Lexeme). AreShallow a) e s) in
-            not_some h.1.g (sym none ∙ h.1.is)
+            none-some h.1.g (sym none ∙ h.1.is)
       ]

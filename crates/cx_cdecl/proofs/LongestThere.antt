@@ -2,6 +2,7 @@
 use Rattle.std.proofs.Common.{◌≡◌, ℕ, zero, suc, ◌+◌, ◌≤◌, Bool, true, false, ◌&&◌, take, List, [], ◌∷◌, ◌++◌, length, length-append, Option, Some, None, refl, sym, ap, ◌∙◌, subst, append_assoc, arith, inl, inr, ◌⊎◌}
 use Rattle.std.proofs.Math.Seq.{take-append_seam}
 use Rattle.std.specs.Prelude.{not}
+use Rattle.std.proofs.lemmas.Option.{same_Some}
 use Rattle.cx_ctree.specs.Types.{TypeTree, tag}
 use Rattle.cx_ctree.specs.Path.{type_path}
 use Rattle.cx_ctree.specs.Decls.{MemberTree, DeclTree, object, proto, SignatureTree}
@@ -14,7 +15,7 @@ use Rattle.cx_cexpr.specs.Kinds.{word_of}
 use Rattle.cx_cexpr.specs.Expressions.{IsBase, void_word, int_words, type_name, tag_name, enum_name}
 use Rattle.cx_cexpr.specs.Reading.{Few, base_at}
 use Rattle.cx_cexpr.proofs.Counted.{NoWord}
-use Rattle.cx_cexpr.proofs.Steps.{bind_some, some_is}
+use Rattle.cx_cexpr.proofs.Steps.{bind_some}
 use Rattle.cx_cexpr.proofs.TypeAgain.{base_longest}
 use Rattle.cx_cword.specs.declared.mark.Mark.{Mark}
 use Rattle.cx_cword.specs.declared.mark.Mark.TheVariants as m
@@ -128,7 +129,7 @@ listed_enum turns earlier env b inside name y is e =
     let f = enum_list_sound turns earlier env b inside i.0 is i.1 in
     let long = ap length f.parts in
     let more = length-append f.front i.0.rest in
-    subst (λ (v : After Specifier). length v.rest ≤ length inside) (some_is (enum_listed name i.0) y i.2) (omega (arith, long, more))
+    subst (λ (v : After Specifier). length v.rest ≤ length inside) (same_Some (enum_listed name i.0) y i.2) (omega (arith, long, more))
 
 listed_record : (turns n : ℕ) (earlier : List DeclTree) (env : Known) (inside : List Lexeme) (name : Option ℕ) (union : Bool) (y : After Specifier) → (place_at env union name >>= λ p. members_at turns earlier n p.known [] inside >>= members_listed union name p.place) ≡ Some y → length y.rest ≤ length inside
 listed_record turns n earlier env inside name union y e =
@@ -142,7 +143,7 @@ listed_record turns n earlier env inside name union y e =
     let long = ap length f.parts in
     let more = length-append f.body q.0.rest in
     let last = ap length c.1.parts in
-    subst (λ (v : After Specifier). length v.rest ≤ length inside) (some_is _ y t.1) (omega (arith, long, more, last))
+    subst (λ (v : After Specifier). length v.rest ≤ length inside) (same_Some _ y t.1) (omega (arith, long, more, last))
 
 listed_less : (turns n : ℕ) (earlier : List DeclTree) (env : Known) (front inside : List Lexeme) (x : Listing) (y : After Specifier) → Begins front x → listed_by (members_at turns earlier n) (enumerators_in turns earlier) env x.name inside x.union_ ≡ Some y → length y.rest ≤ length inside
 listed_less turns n earlier env front inside x y (begins.record_alone o b union is opens) e = listed_record turns n earlier env inside None union y e
@@ -199,13 +200,13 @@ not_listed : (turns : ℕ) (s : Beside) (inside : List Lexeme) (x : After Specif
 not_listed turns s inside x g rest bare less e =
     let b : Got Beside = record { tree = s; rest = inside } in
     let t = if_some (not (x.tree.listed && s.attributed)) (Some (specs_of b x (beside_at turns (not x.tree.listed) turns nothing_said x.rest))) g e in
-    let same : specs_of b x (beside_at turns (not x.tree.listed) turns nothing_said x.rest) ≡ g = some_is _ g t.1 in
+    let same : specs_of b x (beside_at turns (not x.tree.listed) turns nothing_said x.rest) ≡ g = same_Some _ g t.1 in
     subst (λ (v : After Specs). length v.rest ≤ length rest) same (subst (λ (o : Bool). length (beside_at turns (not o) turns nothing_said x.rest).rest ≤ length rest) (sym bare) less)
 
 is_listed : (turns : ℕ) (b : Got Beside) (y : After Specifier) (g : After Specs) (rest : List Lexeme) → length y.rest ≤ length rest → specs_after turns b y ≡ Some g → length g.rest ≤ length rest
 is_listed turns b y g rest less e =
     let t = if_some (not (y.tree.listed && b.tree.attributed)) (Some (specs_of b y (beside_at turns (not y.tree.listed) turns nothing_said y.rest))) g e in
-    let same : specs_of b y (beside_at turns (not y.tree.listed) turns nothing_said y.rest) ≡ g = some_is _ g t.1 in
+    let same : specs_of b y (beside_at turns (not y.tree.listed) turns nothing_said y.rest) ≡ g = same_Some _ g t.1 in
     let more = beside_less turns (not y.tree.listed) turns nothing_said y.rest in
     subst (λ (v : After Specs). length v.rest ≤ length rest) same (omega (arith, less, more))
 
@@ -214,7 +215,7 @@ specifier_by_less : (turns n : ℕ) (earlier : List DeclTree) (env : Known) (os 
     → ((l : Got Listing) → listing_at os ≡ Some l → length l.rest ≤ length rest)
     → (y : After Specifier) (g : After Specs) → specifier_by (λ x. listed_by (members_at turns earlier n) (enumerators_in turns earlier) env x.tree.name x.rest x.tree.union_) (plain_at env os) o ≡ Some y → specs_after turns (record { tree = s; rest = os }) y ≡ Some g → length g.rest ≤ length rest
 specifier_by_less turns n earlier env os rest s x None is plain bare low short y g e f =
-    let same : x ≡ y = some_is x y (sym plain ∙ e) in
+    let same : x ≡ y = same_Some x y (sym plain ∙ e) in
     not_listed turns s os x g rest bare low (ap (specs_after turns (record { tree = s; rest = os })) same ∙ f)
 specifier_by_less turns n earlier env os rest s x (Some l) is plain bare low short y g e f =
     let found = listing_sound os l is in
@@ -345,7 +346,7 @@ function_less turns earlier env x os g e =
     let three = ap length c.1.parts in
     let four = ap length a.parts in
     let five = length-append a.front (after_at turns turns c.0) in
-    subst (λ (v : After Declared). length v.rest ≤ length os) (some_is _ g c.2) (omega (arith, one, two, three, four, five))
+    subst (λ (v : After Declared). length v.rest ≤ length os) (same_Some _ g c.2) (omega (arith, one, two, three, four, five))
 
 declarator_by : (turns : ℕ) (env : Known) (base : TypeTree) (os rest : List Lexeme) (x : After Declared) (r : Option (After Declared)) → declarator_at turns env base os ≡ r → object_front env (object_at turns env base os) ≡ Some x → length x.rest ≤ length rest → ((g : After Declared) → r ≡ Some g → length g.rest ≤ length rest) → DeclaratorFar turns env base os rest
 unfolding front_declarator_at
@@ -359,7 +360,7 @@ choose_less : (turns : ℕ) (earlier : List DeclTree) (env : Known) (x : Got Nam
     → (g : After Declared) → choose m.OpenParen x.rest (plain_declared turns env x) (λ rest. function_after turns env x.tree rest) ≡ Some g → length g.rest ≤ length rest
 choose_less turns earlier env x rest (inr off) low g e =
     let plain : plain_declared turns env x ≡ Some g = sym (choose_other m.OpenParen x.rest (plain_declared turns env x) (λ rest. function_after turns env x.tree rest) off) ∙ e in
-    subst (λ (v : After Declared). length v.rest ≤ length rest) (some_is (declares_object env (sizes_after turns env x)) g plain) low
+    subst (λ (v : After Declared). length v.rest ≤ length rest) (same_Some (declares_object env (sizes_after turns env x)) g plain) low
 choose_less turns earlier env x rest (inl same) low g e =
     elim (choose_some m.OpenParen x.rest (plain_declared turns env x) (λ rest. function_after turns env x.tree rest) g e) [
       | inl c ↦
@@ -367,7 +368,7 @@ choose_less turns earlier env x rest (inl same) low g e =
           let parts = ap length c.1.parts in
           let whole = ap length same in
           omega (arith, less, parts, whole)
-      | inr plain ↦ subst (λ (v : After Declared). length v.rest ≤ length rest) (some_is (declares_object env (sizes_after turns env x)) g plain) low
+      | inr plain ↦ subst (λ (v : After Declared). length v.rest ≤ length rest) (same_Some (declares_object env (sizes_after turns env x)) g plain) low
     ]
 
 object_far : {env : Known} {base v : TypeTree} {a : List Lexeme} {n : ℕ} {o : Lexeme} (earlier : List DeclTree) → Few env → IsObject env base a n o v → (turns : ℕ) (rest : List Lexeme) → Room turns (a ++ rest) → DeclaratorFar turns env base (a ++ rest) rest

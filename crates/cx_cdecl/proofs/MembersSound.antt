@@ -1,6 +1,8 @@
 -- What is read as the words of a type, with members and enumerators in braces, is spelled so.
 use Rattle.std.proofs.Common.{◌≡◌, ℕ, zero, suc, Bool, true, false, ◌&&◌, ◌||◌, cond, List, [], ◌∷◌, ◌++◌, length, Option, Some, None, refl, sym, ap, ◌∙◌, subst, append_assoc, append-nil, inl, inr}
 use Rattle.std.specs.Prelude.{not}
+use Rattle.std.proofs.lemmas.Option.{same_Some}
+use Rattle.cx_base.proofs.General.{not_true, both_true}
 use Rattle.cx_ctree.specs.Types.{TypeTree, tag}
 use Rattle.cx_ctree.specs.Decls.{MemberTree, DeclTree}
 use Rattle.cx_cword.specs.declared.word.Punctuator.TheVariants as p
@@ -9,15 +11,15 @@ use Rattle.cx_cword.specs.Reading.{Is, IsWord, IsName, ◌>>=◌}
 use Rattle.cx_cname.specs.Known.{Known, with_members, is_complete}
 use Rattle.cx_cname.specs.Meanings.{may_have, has_members}
 use Rattle.cx_cexpr.specs.Expressions.{tag_word}
-use Rattle.cx_cexpr.proofs.Steps.{bind_some, some_is, at_first, pick}
+use Rattle.cx_cexpr.proofs.Steps.{bind_some, at_first, pick}
 use Rattle.cx_cword.specs.declared.mark.Mark.TheVariants as m
 use Rattle.cx_cdecl.specs.Declarations.{Beside, nothing_said, IsObject, tag_members, members_alone, enum_named, enum_alone, IsMemberList, member_list, AreMembers, first_members, also_members, IsMemberLine, member_line, AreMemberNames, first_name, also_name}
 use Rattle.cx_cdecl.specs.Reading.{Got, After, Named, Specifier, Specs, Placed, Listing, wanted, choose, if_true, beside_at, place_at, plain_at, specs_of, object_at, member_names_at, are_distinct, named_enum, enum_listed, members_listed, listed_by, enumerators_in, specifier_by, listing_at, specs_after, line_names, members_by, specs_at, specifier_at, members_at, line_at}
 use Rattle.cx_cdecl.proofs.Steps.{if_some, wanted_some, choose_some}
 use Rattle.cx_cdecl.proofs.BesideSound.{beside_sound}
 use Rattle.cx_cdecl.proofs.DeclaratorSound.{object_sound}
-use Rattle.cx_cdecl.proofs.EnumSound.{enum_list_sound, and_parts}
-use Rattle.cx_cdecl.proofs.TagSound.{Declared, placed_so, declared_so, distinct_is, is_not, Begins, Listings, listing_sound}
+use Rattle.cx_cdecl.proofs.EnumSound.{enum_list_sound}
+use Rattle.cx_cdecl.proofs.TagSound.{Declared, placed_so, declared_so, distinct_is, Begins, Listings, listing_sound}
 use Rattle.cx_cdecl.proofs.TagSound as begins
 use Rattle.cx_cdecl.proofs.SpecsSound.{SpecifierFront, SpecsFront, plain_sound, around}
 use Rattle.cx_cword.specs.Marks.{fits}
@@ -52,7 +54,7 @@ module _ (turns : ℕ) (env : Known) (t : TypeTree) (whole : List Lexeme) (ms : 
   name_step again goes body new rest all g so parts same e =
       elim (choose_some m.Comma rest (Some (record { tree = all; rest = rest })) (λ after. again all after) g e) [
         | inl c ↦ goes (body ++ c.1.at ∷ []) new c.0 g (comma_name c.1.at so c.1.is) (parts ∙ ap (λ (v : List Lexeme). body ++ v) c.1.parts ∙ sym (append_assoc body (c.1.at ∷ []) c.0)) (ap (λ (v : List MemberTree). again v c.0) (sym same) ∙ c.2)
-        | inr stop ↦ subst (NamesFront env t whole ms) (some_is (record { tree = all; rest = rest }) g stop) (record { body = body; new = new; parts = parts; tree = sym same; so = so })
+        | inr stop ↦ subst (NamesFront env t whole ms) (same_Some (record { tree = all; rest = rest }) g stop) (record { body = body; new = new; parts = parts; tree = sym same; so = so })
       ]
 
   names_sound : (n : ℕ) → GoesNames (member_names_at turns env t n)
@@ -78,7 +80,7 @@ pub record LineFront (earlier : List DeclTree) (env : Known) (ms : List MemberTr
 
 nor_parts : (a b : Bool) → not (a || b) ≡ true → (a ≡ false) × (b ≡ false)
 nor_parts true b e = absurd cc
-nor_parts false b e = (refl, is_not b e)
+nor_parts false b e = (refl, not_true b e)
 
 line_step : (turns : ℕ) (earlier : List DeclTree) (env : Known) (ms : List MemberTree) (os : List Lexeme) (s : After Specs) (x : After (List MemberTree)) → SpecsFront earlier env os s → line_names turns ms s ≡ Some x → LineFront earlier env ms os x
 line_step turns earlier env ms os s x f e =
@@ -88,7 +90,7 @@ line_step turns earlier env ms os s x f e =
     let i = bind_some (member_names_at turns s.known s.tree.ctype turns ms s.rest) go x t.1 in
     let n = names_sound turns s.known s.tree.ctype s.rest ms turns [] [] s.rest i.0 no_name refl (ap (λ (v : List MemberTree). member_names_at turns s.known s.tree.ctype turns v s.rest) (append-nil ms) ∙ i.1) in
     let c = wanted_some m.Semicolon i.0.rest (λ after. Some (record { tree = i.0.tree; known = s.known; rest = after })) x i.2 in
-    subst (LineFront earlier env ms os) (some_is (record { tree = i.0.tree; known = s.known; rest = c.0 }) x c.2) (record {
+    subst (LineFront earlier env ms os) (same_Some (record { tree = i.0.tree; known = s.known; rest = c.0 }) x c.2) (record {
       front = (f.front ++ n.body) ++ c.1.at ∷ [];
       new = n.new;
       parts = f.parts ∙ ap (λ (v : List Lexeme). f.front ++ v) (n.parts ∙ ap (λ (v : List Lexeme). n.body ++ v) c.1.parts) ∙ sym (append_assoc f.front n.body (c.1.at ∷ c.0)) ∙ sym (append_assoc (f.front ++ n.body) (c.1.at ∷ []) c.0);
@@ -117,7 +119,7 @@ after_line : (earlier : List DeclTree) (again : Known → List MemberTree → Li
 after_line earlier again goes env whole body y x so parts e =
     let a = at_first y.rest (λ o rest. cond (fits m.CloseBrace o.kind) (Some y) (again y.known y.tree y.rest)) x e in
     elim (pick (fits m.CloseBrace a.0.kind) (Some y) (again y.known y.tree y.rest) x a.3) [
-      | inl stop ↦ subst (MembersFront earlier env whole) (some_is y x stop.1) (record { body = body; parts = parts; so = so })
+      | inl stop ↦ subst (MembersFront earlier env whole) (same_Some y x stop.1) (record { body = body; parts = parts; so = so })
       | inr more ↦ goes env whole body y.tree y.known y.rest x (some_lines so) parts more.1
     ]
 
@@ -147,16 +149,16 @@ membered earlier env b os at union name x g opens f e =
     let made : List Lexeme → After Specifier = λ after. record { tree = record { ctype = tag at; listed = true }; known = with_members x.known at name union x.tree; rest = after } in
     let c = wanted_some m.CloseBrace x.rest (λ after. if_true (are_distinct x.tree && may_have x.known at x.tree) (Some (made after))) g e in
     let t = if_some (are_distinct x.tree && may_have x.known at x.tree) (Some (made c.0)) g c.2 in
-    let both = and_parts (are_distinct x.tree) (may_have x.known at x.tree) t.0 in
-    let have = and_parts (not (has_members x.known at)) _ both.1 in
-    let same = some_is (made c.0) g t.1 in
+    let both = both_true (are_distinct x.tree) (may_have x.known at x.tree) t.0 in
+    let have = both_true (not (has_members x.known at)) _ both.1 in
+    let same = same_Some (made c.0) g t.1 in
     record {
       front = f.body ++ c.1.at ∷ [];
       ms = x.tree;
       known = x.known;
       parts = f.parts ∙ ap (λ (v : List Lexeme). f.body ++ v) c.1.parts ∙ sym (append_assoc f.body (c.1.at ∷ []) c.0) ∙ ap (λ (v : After Specifier). (f.body ++ c.1.at ∷ []) ++ v.rest) same;
       so = member_list b c.1.at opens f.so (distinct_is x.tree both.0) c.1.is;
-      free = is_not (has_members x.known at) have.0;
+      free = not_true (has_members x.known at) have.0;
       tree = ap (λ (v : After Specifier). v.tree) (sym same);
       after = ap (λ (v : After Specifier). v.known) (sym same);
     }
@@ -184,7 +186,7 @@ module _ (turns : ℕ) (earlier : List DeclTree) (env : Known) (again : Known �
   alone_front : (o b : Lexeme) (union : Bool) (os : List Lexeme) (g : After Specifier) → IsWord (tag_word union) o → Is p.OpenBrace b → Listed (record { union_ = Some union; name = None }) os g → Front (o ∷ b ∷ []) os g
   alone_front o b union os g is opens e =
       let r = read_members b os None union g opens e in
-      let place : Rattle.cx_cdecl.specs.Reading.new_tag env union None ≡ r.0 = some_is _ r.0 r.1 in
+      let place : Rattle.cx_cdecl.specs.Reading.new_tag env union None ≡ r.0 = same_Some _ r.0 r.1 in
       let h = subst (λ (v : Placed). Membered earlier v.known b os v.place union None g) (sym place) r.2 in
       subst (SpecifierFront earlier env (o ∷ b ∷ os)) (made_is g (with_members h.known (length env.tags) None union h.ms) (tag (length env.tags)) h.tree h.after)
       (record { front = o ∷ b ∷ h.front; parts = ap (λ (v : List Lexeme). o ∷ b ∷ v) h.parts; so = members_alone o union is h.so })
@@ -203,11 +205,11 @@ module _ (turns : ℕ) (earlier : List DeclTree) (env : Known) (again : Known �
   listed_front front os x g (begins.enum_alone o b is opens) e =
       let i = bind_some (enumerators_in turns earlier env os) (λ y. Some (enum_listed None y)) g e in
       let f = enum_list_sound turns earlier env b os i.0 opens i.1 in
-      subst (SpecifierFront earlier env (o ∷ b ∷ os)) (some_is (enum_listed None i.0) g i.2) (record { front = o ∷ b ∷ f.front; parts = ap (λ (v : List Lexeme). o ∷ b ∷ v) f.parts; so = enum_alone o is f.so })
+      subst (SpecifierFront earlier env (o ∷ b ∷ os)) (same_Some (enum_listed None i.0) g i.2) (record { front = o ∷ b ∷ f.front; parts = ap (λ (v : List Lexeme). o ∷ b ∷ v) f.parts; so = enum_alone o is f.so })
   listed_front front os x g (begins.enum_named o w b n is called opens) e =
       let i = bind_some (enumerators_in turns earlier env os) (λ y. Some (enum_listed (Some n) y)) g e in
       let f = enum_list_sound turns earlier env b os i.0 opens i.1 in
-      subst (SpecifierFront earlier env (o ∷ w ∷ b ∷ os)) (some_is (enum_listed (Some n) i.0) g i.2) (record { front = o ∷ w ∷ b ∷ f.front; parts = ap (λ (v : List Lexeme). o ∷ w ∷ b ∷ v) f.parts; so = enum_named o w n is called f.so })
+      subst (SpecifierFront earlier env (o ∷ w ∷ b ∷ os)) (same_Some (enum_listed (Some n) i.0) g i.2) (record { front = o ∷ w ∷ b ∷ f.front; parts = ap (λ (v : List Lexeme). o ∷ w ∷ b ∷ v) f.parts; so = enum_named o w n is called f.so })
 
   specifier_step : (os : List Lexeme) (x : Option (Got Listing)) (g : After Specifier) → listing_at os ≡ x
       → specifier_by (λ x. listed_by again (enumerators_in turns earlier) env x.tree.name x.rest x.tree.union_) (plain_at env os) x ≡ Some g → SpecifierFront earlier env os g
@@ -230,7 +232,7 @@ after_some turns earlier env os x g f e =
     let r = beside_at turns (not x.tree.listed) turns nothing_said x.rest in
     let t = if_some (not (x.tree.listed && s.tree.attributed)) (Some (specs_of s x r)) g e in
     let after = beside_sound turns (not x.tree.listed) turns nothing_said x.rest in
-    subst (SpecsFront earlier env os) (some_is (specs_of s x r) g t.1)
+    subst (SpecsFront earlier env os) (same_Some (specs_of s x r) g t.1)
     (around turns earlier env os x r f (not x.tree.listed) after
     (λ said same. bare_list x.tree.listed s.tree.attributed said.attributed t.0 (λ h. ap (λ (v : Beside). v.attributed) (same ∙ sym after.tree) ∙ after.bare h)))
 

@@ -1,6 +1,8 @@
 -- The words of a type, with members and enumerators in braces, are read.
 use Rattle.std.proofs.Common.{◌≡◌, ℕ, zero, suc, ◌+◌, ◌*◌, ◌≤◌, Bool, true, false, ◌&&◌, ◌||◌, cond, List, [], ◌∷◌, ◌++◌, length, length-append, Option, Some, None, refl, sym, ap, ◌∙◌, subst, append_assoc, arith}
 use Rattle.std.specs.Prelude.{not, is_some}
+use Rattle.std.proofs.lemmas.Option.{same_Some}
+use Rattle.cx_base.proofs.General.{both_true, not_true, true_both}
 use Rattle.cx_ctree.specs.Types.{TypeTree, int, tag}
 use Rattle.cx_ctree.specs.Conversions.{signed_int}
 use Rattle.cx_ctree.specs.Decls.{MemberTree, DeclTree}
@@ -11,7 +13,6 @@ use Rattle.cx_cword.specs.Reading.{Is, IsName, ◌>>=◌}
 use Rattle.cx_cname.specs.Known.{Known, with_tag, with_members, is_complete, tag_place, HasKind}
 use Rattle.cx_cname.specs.Meanings.{may_have}
 use Rattle.cx_cexpr.proofs.Counted.{NoWord}
-use Rattle.cx_cexpr.proofs.Steps.{some_is}
 use Rattle.cx_cword.specs.declared.mark.Mark.{Mark}
 use Rattle.cx_cword.specs.declared.mark.Mark.TheVariants as m
 use Rattle.cx_cdecl.specs.Declarations.{Beside, nothing_said, both_said, AreBeside, ArePointers, no_star, also_star, IsObject, object_of, IsSpecifier, declared_before, new_tag, tag_members, members_alone, enum_named, enum_alone, AreSpecs, specs, IsMemberList, member_list, AreMembers, first_members, also_members, IsMemberLine, member_line, AreMemberNames, first_name, also_name, tag_declared}
@@ -20,7 +21,7 @@ use Rattle.cx_cdecl.proofs.BesideSound.{beside_sound}
 use Rattle.cx_cdecl.proofs.BesideThere.{beside_goes, beside_ends, beside_there}
 use Rattle.cx_cdecl.proofs.DeclaratorThere.{named_of, object_there}
 use Rattle.cx_cdecl.proofs.EnumThere.{enum_list_there}
-use Rattle.cx_cdecl.proofs.Follows.{no_keyword, no_beside, no_mark, closes, ends_type, is_keyword, is_closed_by, not_true, both_so, closes_bracket, keyword_beside, keyword_word, name_plain, name_no_mark, wanted_goes, choose_goes, choose_other, if_goes, bind_goes, Room}
+use Rattle.cx_cdecl.proofs.Follows.{no_keyword, no_beside, no_mark, closes, ends_type, is_keyword, is_closed_by, closes_bracket, keyword_beside, keyword_word, name_plain, name_no_mark, wanted_goes, choose_goes, choose_other, if_goes, bind_goes, Room}
 use Rattle.cx_cdecl.proofs.Grows.{Fits, fits_few, fits_after, fits_within, fits_less, grows_tag, grows_declared, kind_so, distinct_so, may_have_so, are_complete}
 use Rattle.cx_cdecl.proofs.Growing.{specs_grow, lines_grow, members_complete, free_so}
 use Rattle.cx_cdecl.proofs.SpecsThere.{First, first_beside, first_mark, first_filled, specifier_first, beside_word, beside_mark, listing_of, record_listed, record_bare, enum_listed_so, enum_bare, plain_of, PlainRead, base_read, new_tag_read, plain_read}
@@ -29,17 +30,13 @@ use Rattle.cx_cword.specs.Marks.{fits}
 
 -- ---- what begins declarators and types
 
-and_two : (a b : Bool) → (a && b) ≡ true → (a ≡ true) × (b ≡ true)
-and_two true b e = (refl, e)
-and_two false b e = absurd cc
-
 pub pointers_begin : {t w : TypeTree} {a : List Lexeme} → ArePointers t a w → (rest : List Lexeme) → ends_type rest ≡ true → ends_type (a ++ rest) ≡ true
 pointers_begin no_star rest e = e
 pointers_begin (also_star {a = a} {c = c} o h is skips) rest e =
     ap ends_type (append_assoc a (o ∷ c) rest) ∙ pointers_begin h (o ∷ (c ++ rest)) (ap (λ (kind : LexemeKind). not (is_keyword kind) && not (fits m.OpenBrace kind)) is)
 
 pub name_begins : (o : Lexeme) (n : ℕ) (rest : List Lexeme) → IsName n o → ends_type (o ∷ rest) ≡ true
-name_begins o n rest is = both_so (not (is_keyword o.kind)) (not (fits m.OpenBrace o.kind)) (ap not (name_plain o.kind n is)) (ap not (name_no_mark m.OpenBrace o.kind n is))
+name_begins o n rest is = true_both (not (is_keyword o.kind)) (not (fits m.OpenBrace o.kind)) (ap not (name_plain o.kind n is)) (ap not (name_no_mark m.OpenBrace o.kind n is))
 
 pub object_begins : {env : Known} {t v : TypeTree} {a : List Lexeme} {n : ℕ} {o : Lexeme} → IsObject env t a n o v → (rest : List Lexeme) → ends_type (a ++ rest) ≡ true
 object_begins (object_of {a = a} {c = c} o n h is g low) rest = ap ends_type (append_assoc a (o ∷ c) rest) ∙ pointers_begin h (o ∷ (c ++ rest)) (name_begins o n (c ++ rest) is)
@@ -127,7 +124,7 @@ pub record Plainly (rest : List Lexeme) : Type 0 where
   pub brace : no_mark m.OpenBrace rest ≡ true
 
 plainly : (rest : List Lexeme) → ends_type rest ≡ true → Plainly rest
-plainly rest e = let b = and_two (no_keyword rest) (no_mark m.OpenBrace rest) e in record { word = keyword_word rest b.0; brace = b.1 }
+plainly rest e = let b = both_true (no_keyword rest) (no_mark m.OpenBrace rest) e in record { word = keyword_word rest b.0; brace = b.1 }
 
 beside_plainly : {d : List Lexeme} {r : Beside} → AreBeside d r → (rest : List Lexeme) → Plainly rest → Plainly (d ++ rest)
 beside_plainly h rest f = record { word = beside_word h rest f.word; brace = beside_mark h m.OpenBrace rest f.brace }
@@ -154,7 +151,7 @@ members_shut : (known : Known) (at : ℕ) (name : Option ℕ) (union : Bool) (ms
 members_shut known at name union ms c rest is apart have =
     let made : List Lexeme → Option (After Specifier) = λ after. Some (specifier_of (with_members known at name union ms) (tag at) true after) in
     wanted_goes m.CloseBrace c rest (λ after. if_true (are_distinct ms && may_have known at ms) (made after)) is
-    ∙ if_goes (are_distinct ms && may_have known at ms) (made rest) (both_so (are_distinct ms) (may_have known at ms) apart have)
+    ∙ if_goes (are_distinct ms && may_have known at ms) (made rest) (true_both (are_distinct ms) (may_have known at ms) apart have)
 
 record_goes : (turns n : ℕ) (earlier : List DeclTree) (env first known : Known) (os inside rest : List Lexeme) (c : Lexeme) (union : Bool) (name : Option ℕ) (at : ℕ) (ms : List MemberTree) → 1 ≤ n → listing_at os ≡ listing_of (Some union) name inside → place_at env union name ≡ Some (record { place = at; known = first })
     → ((k : ℕ) → n ≡ suc k → members_at turns earlier k first [] inside ≡ Some (lines_of ms known (c ∷ rest))) → Is p.CloseBrace c → are_distinct ms ≡ true → may_have known at ms ≡ true
@@ -176,10 +173,10 @@ enum_goes turns (suc n) earlier env known os inside rest name some list read =
 placed_by : (env : Known) (n at : ℕ) (union : Bool) (q : Option ℕ) → tag_place env n ≡ q → tag_place (cond (is_some q) env (with_tag env (Some n) union)) n ≡ Some at → HasKind (cond (is_some q) env (with_tag env (Some n) union)) at union
     → place_by env union n q ≡ Some (record { place = at; known = cond (is_some q) env (with_tag env (Some n) union) })
 placed_by env n at union None is e kind =
-    let same : length env.tags ≡ at = some_is (length env.tags) at (sym (new_place env n union is) ∙ e) in
+    let same : length env.tags ≡ at = same_Some (length env.tags) at (sym (new_place env n union is) ∙ e) in
     ap (λ (v : ℕ). Some (record { place = v; known = with_tag env (Some n) union })) same
 placed_by env n at union (Some old) is e kind =
-    let same : at ≡ old = some_is at old (sym e ∙ is) in
+    let same : at ≡ old = same_Some at old (sym e ∙ is) in
     if_goes (is_kind env union old) (Some (record { place = old; known = env })) (kind_so env union old (subst (λ (v : ℕ). HasKind env v union) same kind))
     ∙ ap (λ (v : ℕ). Some (record { place = v; known = env })) (sym same)
 
@@ -392,7 +389,7 @@ mutual
       let whole = ap length parts in
       let long = length-append a (c ++ o ∷ rest) in
       let ends : ends_type (c ++ o ∷ rest) ≡ true = names_begin i (o ∷ rest) in
-      let plain : no_beside (c ++ o ∷ rest) ≡ true = keyword_beside (c ++ o ∷ rest) (and_two (no_keyword (c ++ o ∷ rest)) (no_mark m.OpenBrace (c ++ o ∷ rest)) ends).0 in
+      let plain : no_beside (c ++ o ∷ rest) ≡ true = keyword_beside (c ++ o ∷ rest) (both_true (no_keyword (c ++ o ∷ rest)) (no_mark m.OpenBrace (c ++ o ∷ rest)) ends).0 in
       let fits2 = fits_less env (((a ++ c) ++ o ∷ []) ++ rest) (a ++ (c ++ o ∷ rest)) fits (omega (arith, whole)) in
       let fits3 = fits_after env known a (c ++ o ∷ rest) fits2 (specs_grow h) in
       ap (line_at turns earlier n env acc) parts
@@ -405,7 +402,7 @@ pub specs_there : {earlier : List DeclTree} {env known : Known} {a : List Lexeme
     → 4 * length (a ++ rest) + 4 ≤ n → specs_at turns earlier n env (a ++ rest) ≡ Some (specs_tree t s listed known rest)
 specs_there h turns n rest ends fits room enough =
     let g = specs_go h turns n rest (λ off. ends) fits room enough in
-    g.is ∙ ap Some (g.ends (keyword_beside rest (and_two (no_keyword rest) (no_mark m.OpenBrace rest) ends).0))
+    g.is ∙ ap Some (g.ends (keyword_beside rest (both_true (no_keyword rest) (no_mark m.OpenBrace rest) ends).0))
 
 plain_made : {earlier : List DeclTree} {a c d : List Lexeme} {s r : Beside} {t : TypeTree} {env known : Known} (turns : ℕ) (rest : List Lexeme) → AreBeside a s → IsSpecifier earlier env c t false known → AreBeside d r → ends_type rest ≡ true → Fits env (((a ++ c) ++ d) ++ rest) → Room turns (((a ++ c) ++ d) ++ rest)
     → plain_specs_at turns env (((a ++ c) ++ d) ++ rest) ≡ Some (specs_tree t (both_said s r) false known rest)
@@ -417,7 +414,7 @@ plain_made {a = a} {c = c} {d = d} {s = s} {r = r} {t = t} {env = env} {known = 
     let more = length-append c (d ++ rest) in
     let before = beside_there h turns true turns nothing_said (c ++ (d ++ rest)) (first_beside c (d ++ rest) (specifier_first i)) (omega (arith, room, whole)) (omega (arith, room, whole)) (λ off. absurd cc) in
     let f = plain_read (fits_few env (((a ++ c) ++ d) ++ rest) fits) i refl in
-    let plain = (and_two (no_keyword rest) (no_mark m.OpenBrace rest) ends).0 in
+    let plain = (both_true (no_keyword rest) (no_mark m.OpenBrace rest) ends).0 in
     let after = beside_there j turns true turns nothing_said rest (keyword_beside rest plain) (omega (arith, room, whole, long, more)) (omega (arith, room, whole, long, more)) (λ off. absurd cc) in
     ap (λ (v : List Lexeme). let b = beside_at turns true turns nothing_said v in plain_at env b.rest >>= λ x. Some (specs_of b x (beside_at turns true turns nothing_said x.rest))) parts
     ∙ ap (λ (b : Got Beside). plain_at env b.rest >>= λ x. Some (specs_of b x (beside_at turns true turns nothing_said x.rest))) before

@@ -2,6 +2,8 @@
 use Rattle.std.proofs.Common.{◌≡◌, ℕ, zero, suc, ◌+◌, ◌-◌, ◌≤◌, Bool, true, false, ◌&&◌, cond, List, [], ◌∷◌, ◌++◌, length, take, Option, Some, None, refl, sym, ap, ◌∙◌, subst, append_assoc, arith, length-append, inl, inr, nat_lt}
 use Rattle.std.proofs.lemmas.Bool.Decides.{nat_tests}
 use Rattle.std.specs.Prelude.{not, nat_le}
+use Rattle.std.proofs.lemmas.Option.{same_Some}
+use Rattle.cx_base.proofs.General.{not_true, both_true}
 use Rattle.cx_ctree.specs.Types.{TypeTree, void, int, pointer, array, tag}
 use Rattle.cx_ctree.specs.Path.{type_path}
 use Rattle.cx_ctree.specs.Decls.{ParamTree, DeclTree}
@@ -9,7 +11,7 @@ use Rattle.cx_cword.specs.declared.word.Punctuator.TheVariants as p
 use Rattle.cx_cword.specs.declared.lexeme.Lexeme.{Lexeme}
 use Rattle.cx_cword.specs.Reading.{Is, IsName, name_of, ◌>>=◌}
 use Rattle.cx_cname.specs.Known.{Known, names_type, is_complete}
-use Rattle.cx_cexpr.proofs.Steps.{bind_some, some_is, at_rest}
+use Rattle.cx_cexpr.proofs.Steps.{bind_some, at_rest}
 use Rattle.cx_cword.specs.declared.mark.Mark.TheVariants as m
 use Rattle.cx_cdecl.specs.Declarations.{adjusted, names_used, are_outside, is_void_word, is_void_alone, AreSizes, AreSpecs, IsParamSize, param_plain, param_open, param_sized, IsParam, param_alone, param_named, AreParams, first_param, also_param, IsParamList, no_param, void_param, params}
 use Rattle.cx_cdecl.specs.Reading as reading
@@ -17,8 +19,6 @@ use Rattle.cx_cdecl.specs.Reading.{Got, After, Specs, wanted, choose, if_true, p
 use Rattle.cx_cdecl.proofs.Shapes.{void_is}
 use Rattle.cx_cdecl.proofs.Steps.{if_some, Marked, choose_some}
 use Rattle.cx_cdecl.proofs.DeclaratorSound.{Pointers, pointers_sound, Sizes, sizes_sound, sized_sound, complete_arrays, path_arrays, low_is}
-use Rattle.cx_cdecl.proofs.EnumSound.{and_parts}
-use Rattle.cx_cdecl.proofs.TagSound.{is_not}
 use Rattle.cx_cdecl.proofs.SpecsSound.{SpecsFront, plain_specs_sound, plain_unlisted}
 use Rattle.cx_cword.specs.Marks.{fits}
 
@@ -84,13 +84,13 @@ open_param turns env t o c os g opens closes e =
     let x = sizes_at turns env (399 - type_path t) [] os in
     let made : Got Sized = record { tree = record { ctype = pointer (arrays t x.tree); used = names_used (taken os x.rest) }; rest = x.rest } in
     let h = if_some (is_complete env t && nat_le (type_path (pointer t)) 400) (Some made) g e in
-    let b = and_parts (is_complete env t) (nat_le (type_path (pointer t)) 400) h.0 in
+    let b = both_true (is_complete env t) (nat_le (type_path (pointer t)) 400) h.0 in
     let s = sizes_sound turns env t b.0 (399 - type_path t) [] os in
     let high = low_is (pointer t) 400 b.1 in
     let path = path_arrays t s.more in
     let few = s.low in
     let used : names_used s.front ≡ names_used (taken os x.rest) = sym (ap names_used (taken_front os s.front x.rest s.parts)) in
-    subst (SizeFront env t (o ∷ c ∷ os)) (some_is made g h.1) (record {
+    subst (SizeFront env t (o ∷ c ∷ os)) (same_Some made g h.1) (record {
       front = o ∷ c ∷ s.front;
       parts = ap (λ (v : List Lexeme). o ∷ c ∷ v) s.parts;
       so = subst (λ (u : List ℕ). IsParamSize env t (o ∷ c ∷ s.front) (pointer (arrays t x.tree)) u) used
@@ -106,9 +106,9 @@ param_size_sound turns env t os g low e =
     elim (choose_some m.OpenBracket os (Some plain) (λ rest. choose m.CloseBracket rest (Some plain) (λ after. reading.param_open turns env t after)) g e) [
       | inl a ↦ elim (choose_some m.CloseBracket a.0 (Some plain) (λ after. reading.param_open turns env t after) g a.2) [
         | inl c ↦ subst (λ (v : List Lexeme). SizeFront env t v g) (sym (a.1.parts ∙ ap (λ (v : List Lexeme). a.1.at ∷ v) c.1.parts)) (open_param turns env t a.1.at c.1.at c.0 g a.1.is c.1.is c.2)
-        | inr stop ↦ subst (SizeFront env t os) (some_is plain g stop) (sized_param turns env t os low)
+        | inr stop ↦ subst (SizeFront env t os) (same_Some plain g stop) (sized_param turns env t os low)
       ]
-      | inr stop ↦ subst (SizeFront env t os) (some_is plain g stop) (sized_param turns env t os low)
+      | inr stop ↦ subst (SizeFront env t os) (same_Some plain g stop) (sized_param turns env t os low)
     ]
 
 -- ---- one parameter
@@ -129,7 +129,7 @@ module _ (turns : ℕ) (earlier : List DeclTree) (env : Known) (os : List Lexeme
   without_name g e =
       let i = bind_some (param_size_at turns s.known x.tree x.rest) (with_name None s.known) g e in
       let z = param_size_sound turns s.known x.tree x.rest i.0 q.low i.1 in
-      subst (ParamFront earlier env os) (some_is (used_of None s.known i.0) g i.2) (record {
+      subst (ParamFront earlier env os) (same_Some (used_of None s.known i.0) g i.2) (record {
         front = (f.front ++ q.front) ++ z.front;
         parts = f.parts ∙ ap (λ (v : List Lexeme). f.front ++ v) (q.parts ∙ ap (λ (v : List Lexeme). q.front ++ v) z.parts) ∙ sym (append_assoc f.front q.front (z.front ++ i.0.rest)) ∙ sym (append_assoc (f.front ++ q.front) z.front i.0.rest);
         so = param_alone so_plain bare q.so z.so z.low;
@@ -140,10 +140,10 @@ module _ (turns : ℕ) (earlier : List DeclTree) (env : Known) (os : List Lexeme
       let h = if_some (not (names_type s.known n)) (param_size_at turns s.known x.tree rest >>= with_name (Some n) s.known) g e in
       let i = bind_some (param_size_at turns s.known x.tree rest) (with_name (Some n) s.known) g h.1 in
       let z = param_size_sound turns s.known x.tree rest i.0 q.low i.1 in
-      subst (ParamFront earlier env os) (some_is (used_of (Some n) s.known i.0) g i.2) (record {
+      subst (ParamFront earlier env os) (same_Some (used_of (Some n) s.known i.0) g i.2) (record {
         front = (f.front ++ q.front) ++ o ∷ z.front;
         parts = f.parts ∙ ap (λ (v : List Lexeme). f.front ++ v) (q.parts ∙ ap (λ (v : List Lexeme). q.front ++ v) (is ∙ ap (λ (v : List Lexeme). o ∷ v) z.parts)) ∙ sym (append_assoc f.front q.front (o ∷ z.front ++ i.0.rest)) ∙ sym (append_assoc (f.front ++ q.front) (o ∷ z.front) i.0.rest);
-        so = param_named o n so_plain bare q.so called (is_not (names_type s.known n) h.0) z.so z.low;
+        so = param_named o n so_plain bare q.so called (not_true (names_type s.known n) h.0) z.so z.low;
       })
 
   by_name : (o : Lexeme) (rest : List Lexeme) (name : Option ℕ) (g : After Used) → x.rest ≡ o ∷ rest → name_of o.kind ≡ name → param_by turns s.known x rest name ≡ Some g → ParamFront earlier env os g
@@ -163,7 +163,7 @@ param_sound turns earlier env os g e =
     let i = bind_some (plain_specs_at turns env os) (λ s. if_true (not s.tree.said.attributed) (pointers_at turns 400 s.tree.ctype s.rest >>= reading.param_named turns s.known)) g e in
     let h = if_some (not i.0.tree.said.attributed) (pointers_at turns 400 i.0.tree.ctype i.0.rest >>= reading.param_named turns i.0.known) g i.2 in
     let j = bind_some (pointers_at turns 400 i.0.tree.ctype i.0.rest) (reading.param_named turns i.0.known) g h.1 in
-    named_sound turns earlier env os i.0 (plain_specs_sound turns earlier env os i.0 i.1) (plain_unlisted turns env os i.0 i.1) (is_not i.0.tree.said.attributed h.0) j.0 (pointers_sound turns 400 i.0.tree.ctype i.0.rest j.0 j.1) g j.2
+    named_sound turns earlier env os i.0 (plain_specs_sound turns earlier env os i.0 i.1) (plain_unlisted turns env os i.0 i.1) (not_true i.0.tree.said.attributed h.0) j.0 (pointers_sound turns 400 i.0.tree.ctype i.0.rest j.0 j.1) g j.2
 
 -- ---- all of them
 
@@ -190,7 +190,7 @@ module _ (turns : ℕ) (earlier : List DeclTree) (env : Known) (whole : List Lex
   param_step again goes body qs known rest x so parts e =
       elim (choose_some m.Comma rest (Some (record { tree = qs; known = known; rest = rest })) (λ after. again known qs after) x e) [
         | inl c ↦ goes (body ++ c.1.at ∷ []) qs known c.0 x (comma_before qs c.1.at so c.1.is) (parts ∙ ap (λ (v : List Lexeme). body ++ v) c.1.parts ∙ sym (append_assoc body (c.1.at ∷ []) c.0)) c.2
-        | inr stop ↦ subst (ParamsFront earlier env whole) (some_is (record { tree = qs; known = known; rest = rest }) x stop) (record { body = body; parts = parts; so = so })
+        | inr stop ↦ subst (ParamsFront earlier env whole) (same_Some (record { tree = qs; known = known; rest = rest }) x stop) (record { body = body; parts = parts; so = so })
       ]
 
   pub params_sound : (n : ℕ) → GoesParams (params_at turns n)
@@ -236,16 +236,16 @@ module _ (turns : ℕ) (earlier : List DeclTree) (env : Known) where
       let i = bind_some (params_at turns turns env no_params (o ∷ rest)) (λ x. if_true (are_outside x.tree.params x.tree.used) (Some (list_of x.known x.tree.params x.rest))) g e in
       let h = if_some (are_outside i.0.tree.params i.0.tree.used) (Some (list_of i.0.known i.0.tree.params i.0.rest)) g i.2 in
       let f = params_sound turns earlier env (o ∷ rest) turns [] no_params env (o ∷ rest) i.0 none_before refl i.1 in
-      let same = some_is (list_of i.0.known i.0.tree.params i.0.rest) g h.1 in
+      let same = same_Some (list_of i.0.known i.0.tree.params i.0.rest) g h.1 in
       let c2 = subst (λ (v : After (List ParamTree)). Marked m.CloseParen v.rest after) (sym same) c in
       subst (ParamListFront earlier env (o ∷ rest)) same (record { front = f.body; parts = f.parts; so = params f.so (not_alone o rest f.body i.0.rest after b f.parts c2) h.0 })
 
   void_or : (o : Lexeme) (rest after : List Lexeme) (b : Bool) (g : After (List ParamTree)) → (is_void_word o.kind && closes_params rest) ≡ b → cond b (Some (list_of env [] rest)) (some_params turns env (o ∷ rest)) ≡ Some g → Marked m.CloseParen g.rest after → ParamListFront earlier env (o ∷ rest) g
-  void_or o rest after true g is e c = subst (ParamListFront earlier env (o ∷ rest)) (some_is (list_of env [] rest) g e) (record { front = o ∷ []; parts = refl; so = void_param o (void_is o.kind (and_parts (is_void_word o.kind) (closes_params rest) is).0) })
+  void_or o rest after true g is e c = subst (ParamListFront earlier env (o ∷ rest)) (same_Some (list_of env [] rest) g e) (record { front = o ∷ []; parts = refl; so = void_param o (void_is o.kind (both_true (is_void_word o.kind) (closes_params rest) is).0) })
   void_or o rest after false g is e c = some_list o rest after g is e c
 
   list_first : (o : Lexeme) (rest after : List Lexeme) (b : Bool) (g : After (List ParamTree)) → cond b (Some (list_of env [] (o ∷ rest))) (cond (is_void_word o.kind && closes_params rest) (Some (list_of env [] rest)) (some_params turns env (o ∷ rest))) ≡ Some g → Marked m.CloseParen g.rest after → ParamListFront earlier env (o ∷ rest) g
-  list_first o rest after true g e c = subst (ParamListFront earlier env (o ∷ rest)) (some_is (list_of env [] (o ∷ rest)) g e) (record { front = []; parts = refl; so = no_param })
+  list_first o rest after true g e c = subst (ParamListFront earlier env (o ∷ rest)) (same_Some (list_of env [] (o ∷ rest)) g e) (record { front = []; parts = refl; so = no_param })
   list_first o rest after false g e c = void_or o rest after (is_void_word o.kind && closes_params rest) g refl e c
 
   pub param_list_sound : (os after : List Lexeme) (g : After (List ParamTree)) → param_list_at turns env os ≡ Some g → Marked m.CloseParen g.rest after → ParamListFront earlier env os g

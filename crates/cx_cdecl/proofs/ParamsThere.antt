@@ -2,6 +2,7 @@
 use Rattle.std.proofs.Common.{◌≡◌, ℕ, zero, suc, ◌+◌, ◌-◌, ◌≤◌, Bool, true, false, ◌&&◌, ◌||◌, cond, List, [], ◌∷◌, ◌++◌, length, length-append, Option, Some, None, refl, sym, ap, ◌∙◌, append_assoc, append-nil, arith}
 use Rattle.std.proofs.lemmas.Bool.Decides.{nat_tests}
 use Rattle.std.specs.Prelude.{not, nat_lt, nat_le}
+use Rattle.cx_base.proofs.General.{both_true, not_true, true_both}
 use Rattle.cx_ctree.specs.Types.{TypeTree, void, int, pointer, array, tag}
 use Rattle.cx_ctree.specs.Path.{type_path}
 use Rattle.cx_ctree.specs.Decls.{ParamTree, DeclTree}
@@ -26,7 +27,7 @@ use Rattle.cx_cdecl.specs.Reading.{Got, After, Specs, choose, if_true, pointers_
 use Rattle.cx_cdecl.proofs.BesideThere.{attributes_there}
 use Rattle.cx_cdecl.proofs.DeclaratorSound.{complete_arrays, path_arrays}
 use Rattle.cx_cdecl.proofs.DeclaratorThere.{pointers_there, SizesGo, sizes_go, sizes_end, sized_none, sized_there}
-use Rattle.cx_cdecl.proofs.Follows.{no_keyword, no_mark, closes, ends_type, is_keyword, is_closed_by, not_true, both_so, closes_star, closes_bracket, closes_type, name_no_mark, choose_goes, choose_other, if_goes, bind_goes, Room}
+use Rattle.cx_cdecl.proofs.Follows.{no_keyword, no_mark, closes, ends_type, is_keyword, is_closed_by, closes_star, closes_bracket, closes_type, name_no_mark, choose_goes, choose_other, if_goes, bind_goes, Room}
 use Rattle.cx_cword.proofs.Marks.{is_fit}
 use Rattle.cx_cdecl.proofs.Grows.{Fits, fits_few, fits_after, fits_less, Grows, grows_none, grows_then, grows_more}
 use Rattle.cx_cdecl.proofs.Growing.{specs_grow}
@@ -98,7 +99,7 @@ module _ (env : Known) (few : Few env) where
       let path : type_path w ≡ length f.more + type_path t = ap type_path f.tree ∙ path_arrays t f.more in
       let d : ℕ = 399 - type_path t - length f.more in
       let count : 399 - type_path t ≡ length f.more + d = omega (arith, path, low) in
-      let test : (is_complete env t && nat_le (type_path (pointer t)) 400) ≡ true = both_so (is_complete env t) (nat_le (type_path (pointer t)) 400) (sym (ap (is_complete env) f.tree ∙ complete_arrays env t f.more) ∙ done) (high_so t (omega (arith, path, low))) in
+      let test : (is_complete env t && nat_le (type_path (pointer t)) 400) ≡ true = true_both (is_complete env t) (nat_le (type_path (pointer t)) 400) (sym (ap (is_complete env) f.tree ∙ complete_arrays env t f.more) ∙ done) (high_so t (omega (arith, path, low))) in
       let made : Got (List ℕ) → Option (Got Sized) = λ x. Some (got_size (pointer (arrays t x.tree)) (names_used (taken (c ++ rest) x.rest)) x.rest) in
       if_goes (is_complete env t && nat_le (type_path (pointer t)) 400) (made (sizes_at turns env (399 - type_path t) [] (c ++ rest))) test
       ∙ ap (λ (v : ℕ). made (sizes_at turns env v [] (c ++ rest))) count
@@ -190,12 +191,8 @@ size_bare (param_sized h some) rest e = sizes_bare h rest e
 
 -- ---- one parameter
 
-and_two : (a b : Bool) → (a && b) ≡ true → (a ≡ true) × (b ≡ true)
-and_two true b e = (refl, e)
-and_two false b e = absurd cc
-
 type_keyword : (os : List Lexeme) → ends_type os ≡ true → no_keyword os ≡ true
-type_keyword os e = (and_two (no_keyword os) (no_mark m.OpenBrace os) e).0
+type_keyword os e = (both_true (no_keyword os) (no_mark m.OpenBrace os) e).0
 
 abbrev pub used_of : Option ℕ → TypeTree → List ℕ → Known → List Lexeme → After Used
 used_of name t z known rest = record { tree = record { param = record { name = name; ctype = t }; used = z }; known = known; rest = rest }

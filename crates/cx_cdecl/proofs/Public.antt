@@ -3,6 +3,7 @@ use Rattle.std.proofs.Common.{◌≡◌, ℕ, zero, suc, ◌+◌, ◌-◌, ◌*�
 use Rattle.std.proofs.Math.Seq.{take-append_seam}
 use Rattle.std.specs.Prelude.{option_map, Result, Ok, Err, IfOk, MatchOption}
 use Rattle.std.proofs.lemmas.List.{length-map}
+use Rattle.std.proofs.lemmas.Option.{same_Some, none-some}
 use Rattle.cx_base.specs.declared.span.Span.{Span}
 use Rattle.cx_ctree.specs.Types.{TypeTree}
 use Rattle.cx_ctree.specs.Path.{type_path}
@@ -29,13 +30,7 @@ use Rattle.cx_cdecl.proofs.Longest.{shallow_front, shallow_low, shallow_same, Ta
 use Rattle.cx_cdecl.proofs.There.{Enough, declaration_there, specs_far, declarator_far}
 use Rattle.cx_cdecl.proofs.DeclarationSound.{IsDeclarator, of_object, of_function, declaration_sound, front_specs_sound, front_declarator_sound}
 
-same_some : {A : Type 0} (x y : A) → Some x ≡ Some y → x ≡ y
-same_some x y e = cc
-
 -- ---- whole declarations
-
-not_both : {A : Type 0} (x : A) → None ≡ Some x → ⊥
-not_both x e = absurd cc
 
 -- as many as there are
 take_all : {A : Type 0} (n : ℕ) (xs : List A) → length xs ≤ n → take n xs ≡ xs
@@ -63,7 +58,7 @@ abbrev made : {A : Type 0} → A → Known → List Lexeme → After A
 made t k rest = record { tree = t; known = k; rest = rest }
 
 ended_by : {A : Type 0} (rest : List Lexeme) (t : A) (k : Known) (r : After A) → at_end (made t k rest) ≡ Some r → (rest ≡ []) × (t ≡ r.tree) × (k ≡ r.known)
-ended_by {A} [] t k r e = let same : made t k [] ≡ r = same_some (made t k []) r e in (refl, ap (λ (x : After A). x.tree) same, ap (λ (x : After A). x.known) same)
+ended_by {A} [] t k r e = let same : made t k [] ≡ r = same_Some (made t k []) r e in (refl, ap (λ (x : After A). x.tree) same, ap (λ (x : After A). x.known) same)
 ended_by (o ∷ rest) t k r e = absurd cc
 
 ended : {A : Type 0} (x r : After A) → at_end x ≡ Some r → (x.rest ≡ []) × (x.tree ≡ r.tree) × (x.known ≡ r.known)
@@ -84,7 +79,7 @@ whole_only turns earlier env known os ds enough all e =
     record {
       derived = record { spelled = subst (λ (ts : List DeclTree). IsDeclaration earlier env os ts known) x.1 known_so; shallow = w.1 };
       only = λ es later d.
-          let same : i.0 ≡ made es later [] = same_some i.0 (made es later []) (sym i.1 ∙ declaration_there d.spelled turns enough) in
+          let same : i.0 ≡ made es later [] = same_Some i.0 (made es later []) (sym i.1 ∙ declaration_there d.spelled turns enough) in
           (ap (λ (r : After (List DeclTree)). r.tree) (sym same) ∙ x.1, ap (λ (r : After (List DeclTree)). r.known) (sym same) ∙ x.2);
     }
 
@@ -95,7 +90,7 @@ whole_none turns earlier env os enough all e ds later d =
     let there = declaration_there d.spelled turns enough in
     let some : (declaration_at turns earlier env os >>= at_end) ≡ Some (made ds later []) = ap (λ o. o >>= at_end) there in
     let none : (declaration_at turns earlier env os >>= at_end) ≡ None = ap (λ (xs : List Lexeme). declaration_at turns earlier env xs >>= at_end) (sym w.0) ∙ e in
-    not_both (made ds later []) (sym none ∙ some)
+    none-some (made ds later []) (sym none ∙ some)
 
 -- ---- types
 

@@ -1,5 +1,6 @@
 -- What is read as the words of a type, with members and enumerators in braces, is spelled so.
 use Rattle.std.proofs.Common.{arith, ◌≡◌, ℕ, Bool, true, false, ◌&&◌, ◌||◌, List, [], ◌∷◌, ◌++◌, Option, Some, None, refl, sym, ap, ◌∙◌, subst, append_assoc}
+use Rattle.std.proofs.lemmas.Option.{same_Some}
 use Rattle.cx_ctree.specs.Types.{TypeTree, tag}
 use Rattle.cx_ctree.specs.Decls.{DeclTree}
 use Rattle.cx_cword.specs.declared.lexeme.Lexeme.{Lexeme}
@@ -8,7 +9,7 @@ use Rattle.cx_cname.specs.Known.{Known}
 use Rattle.cx_cexpr.specs.Expressions.{IsBase, tag_name}
 use Rattle.cx_cexpr.specs.Reading as expr
 use Rattle.cx_cexpr.specs.Reading.{named, base_at}
-use Rattle.cx_cexpr.proofs.Steps.{bind_some, some_is, named_some, at_first}
+use Rattle.cx_cexpr.proofs.Steps.{bind_some, named_some, at_first}
 use Rattle.cx_cexpr.proofs.TypeSound.{base_sound}
 use Rattle.cx_cdecl.specs.declared.kinds.Head.{Head}
 use Rattle.cx_cdecl.specs.declared.kinds.Head.TheVariants as h
@@ -30,7 +31,7 @@ plain_base_so : (earlier : List DeclTree) (env : Known) (os : List Lexeme) (o : 
 plain_base_so earlier env os None g is e = absurd cc
 plain_base_so earlier env os (Some x) g is e =
     let f = base_sound env 400 os x is in
-    subst (SpecifierFront earlier env os) (some_is (record { tree = record { ctype = x.tree; listed = false }; known = env; rest = x.rest }) g e) (record { front = f.front; parts = f.parts; so = declared_before f.spelled_so f.low })
+    subst (SpecifierFront earlier env os) (same_Some (record { tree = record { ctype = x.tree; listed = false }; known = env; rest = x.rest }) g e) (record { front = f.front; parts = f.parts; so = declared_before f.spelled_so f.low })
 
 placed_front : (earlier : List DeclTree) (env : Known) (o w : Lexeme) (rest : List Lexeme) (n : ℕ) (union : Bool) (p : Placed) → IsWord (Rattle.cx_cexpr.specs.Expressions.tag_word union) o → IsName n w → PlacedSo env union n p
     → SpecifierFront earlier env (o ∷ w ∷ rest) (record { tree = record { ctype = tag p.place; listed = false }; known = p.known; rest = rest })
@@ -41,7 +42,7 @@ plain_head : (earlier : List DeclTree) (env : Known) (o : Lexeme) (rest : List L
 plain_head earlier env o rest (h.Record union) g is e =
     let n = named_some rest (λ w n after. place_at env union (Some n) >>= plain_tag after) g e in
     let i = bind_some (place_at env union (Some n.1)) (plain_tag n.2) g n.5 in
-    subst (SpecifierFront earlier env (o ∷ rest)) (some_is (record { tree = record { ctype = tag i.0.place; listed = false }; known = i.0.known; rest = n.2 }) g i.2)
+    subst (SpecifierFront earlier env (o ∷ rest)) (same_Some (record { tree = record { ctype = tag i.0.place; listed = false }; known = i.0.known; rest = n.2 }) g i.2)
     (subst (λ (v : List Lexeme). SpecifierFront earlier env (o ∷ v) (record { tree = record { ctype = tag i.0.place; listed = false }; known = i.0.known; rest = n.2 })) (sym n.3)
     (placed_front earlier env o n.0 n.2 n.1 union i.0 (head_record o.kind union is) n.4 (placed_so env union n.1 i.0 i.1)))
 plain_head earlier env o rest h.Enum g is e = plain_base_so earlier env (o ∷ rest) (base_at env 400 (o ∷ rest)) g refl e
@@ -84,13 +85,13 @@ plain_not_listed env os g e =
   where
     base_unlisted : (env : Known) (o : Option (expr.Got TypeTree)) (g : After Specifier) → plain_base env o ≡ Some g → g.tree.listed ≡ false
     base_unlisted env None g e = absurd cc
-    base_unlisted env (Some x) g e = ap (λ (v : After Specifier). v.tree.listed) (sym (some_is _ g e))
+    base_unlisted env (Some x) g e = ap (λ (v : After Specifier). v.tree.listed) (sym (same_Some _ g e))
 
     unlisted : (env : Known) (os rest : List Lexeme) (head : Head) (g : After Specifier) → plain_by env os rest head ≡ Some g → g.tree.listed ≡ false
     unlisted env os rest (h.Record union) g e =
         let n = named_some rest (λ w n after. place_at env union (Some n) >>= plain_tag after) g e in
         let i = bind_some (place_at env union (Some n.1)) (plain_tag n.2) g n.5 in
-        ap (λ (v : After Specifier). v.tree.listed) (sym (some_is _ g i.2))
+        ap (λ (v : After Specifier). v.tree.listed) (sym (same_Some _ g i.2))
     unlisted env os rest h.Enum g e = base_unlisted env (base_at env 400 os) g e
     unlisted env os rest h.Other g e = base_unlisted env (base_at env 400 os) g e
 
@@ -104,7 +105,7 @@ plain_specs_sound turns earlier env os g e =
     let s = first_said turns os in
     let i = bind_some (plain_at env s.rest) (λ x. Some (specs_of s x (beside_at turns true turns nothing_said x.rest))) g e in
     let r = beside_at turns true turns nothing_said i.0.rest in
-    subst (SpecsFront earlier env os) (some_is (specs_of s i.0 r) g i.2)
+    subst (SpecsFront earlier env os) (same_Some (specs_of s i.0 r) g i.2)
     (around turns earlier env os i.0 r (plain_sound earlier env s.rest i.0 i.1) true (beside_sound turns true turns nothing_said i.0.rest) (λ said same. and_false i.0.tree.listed _ (plain_not_listed env s.rest i.0 i.1)))
 
 pub plain_unlisted : (turns : ℕ) (env : Known) (os : List Lexeme) (g : After Specs) → plain_specs_at turns env os ≡ Some g → g.tree.listed ≡ false
@@ -112,4 +113,4 @@ unfolding plain_specs_at
 plain_unlisted turns env os g e =
     let s = first_said turns os in
     let i = bind_some (plain_at env s.rest) (λ x. Some (specs_of s x (beside_at turns true turns nothing_said x.rest))) g e in
-    ap (λ (v : After Specs). v.tree.listed) (sym (some_is _ g i.2)) ∙ plain_not_listed env s.rest i.0 i.1
+    ap (λ (v : After Specs). v.tree.listed) (sym (same_Some _ g i.2)) ∙ plain_not_listed env s.rest i.0 i.1

@@ -8,6 +8,8 @@ use Rattle.std.proofs.lemmas.List.Kept.{AllPairs-cons}
 use Rattle.std.proofs.lemmas.List.Elements.{All-cons, All-nil}
 use Rattle.std.specs.Prelude.{option_map, slice_get, not, is_some}
 use Rattle.std.specs.List.{position_or_len}
+use Rattle.std.proofs.lemmas.Option.{same_Some}
+use Rattle.cx_base.proofs.General.{not_true, both_true}
 use Rattle.cx_ctree.specs.Types.{TypeTree}
 use Rattle.cx_ctree.specs.Decls.{MemberTree, TagTree}
 use Rattle.cx_cword.specs.declared.word.Keyword.TheVariants as k
@@ -17,14 +19,13 @@ use Rattle.cx_cword.specs.Reading.{Is, IsWord, IsName, name_of}
 use Rattle.cx_cname.specs.Known.{Known, has_name, tag_place, HasKind, undeclared_members, with_tag}
 use Rattle.cx_cexpr.specs.Expressions.{tag_word}
 use Rattle.cx_cexpr.specs.Reading.{same_kind}
-use Rattle.cx_cexpr.proofs.Steps.{some_is, at_first}
+use Rattle.cx_cexpr.proofs.Steps.{at_first}
 use Rattle.cx_cword.specs.declared.mark.Mark.TheVariants as m
 use Rattle.cx_cdecl.specs.declared.kinds.Head.{Head}
 use Rattle.cx_cdecl.specs.declared.kinds.Head.TheVariants as h
 use Rattle.cx_cdecl.specs.Declarations.{tag_declared}
 use Rattle.cx_cdecl.specs.Kinds.{head_of}
 use Rattle.cx_cdecl.specs.Reading.{Got, Placed, new_tag, is_kind, place_by, place_at, names_member, are_distinct, Listing, braced_name, listing_after, listing_by, listing_at}
-use Rattle.cx_cdecl.proofs.EnumSound.{and_parts}
 use Rattle.cx_cdecl.proofs.Shapes.{head_record, head_enum}
 use Rattle.cx_cdecl.proofs.Steps.{if_some, choose_some}
 use Rattle.cx_cword.specs.Marks.{fits}
@@ -75,10 +76,10 @@ pub data PlacedSo (env : Known) (union : Bool) (n : ℕ) : Placed → Type 0 whe
   fresh_place : tag_place env n ≡ None → PlacedSo env union n (new_tag env union (Some n))
 
 placed_by : (env : Known) (union : Bool) (n : ℕ) (o : Option ℕ) (p : Placed) → tag_place env n ≡ o → place_by env union n o ≡ Some p → PlacedSo env union n p
-placed_by env union n None p is e = subst (PlacedSo env union n) (some_is (new_tag env union (Some n)) p e) (fresh_place is)
+placed_by env union n None p is e = subst (PlacedSo env union n) (same_Some (new_tag env union (Some n)) p e) (fresh_place is)
 placed_by env union n (Some at) p is e =
     let h = if_some (is_kind env union at) (Some (record { place = at; known = env })) p e in
-    subst (PlacedSo env union n) (some_is (record { place = at; known = env }) p h.1) (old_place at is (kind_is env union at h.0))
+    subst (PlacedSo env union n) (same_Some (record { place = at; known = env }) p h.1) (old_place at is (kind_is env union at h.0))
 
 pub placed_so : (env : Known) (union : Bool) (n : ℕ) (p : Placed) → place_at env union (Some n) ≡ Some p → PlacedSo env union n p
 placed_so env union n p e = placed_by env union n (tag_place env n) p refl e
@@ -103,10 +104,6 @@ or_parts : (a b : Bool) → (a || b) ≡ false → (a ≡ false) × (b ≡ false
 or_parts true b e = absurd cc
 or_parts false b e = (refl, e)
 
-pub is_not : (b : Bool) → not b ≡ true → b ≡ false
-is_not true e = absurd cc
-is_not false e = refl
-
 no_member : (n : ℕ) (ms : List MemberTree) (t : TypeTree) → names_member n ms ≡ false → All (λ y. n ≢ y.name) ms
 no_member n [] t e = All-nil (λ y. n ≢ y.name)
 no_member n (m ∷ ms) t e =
@@ -117,8 +114,8 @@ no_member n (m ∷ ms) t e =
 pub distinct_is : (ms : List MemberTree) → are_distinct ms ≡ true → AllPairs (λ x y. x.name ≢ y.name) ms
 distinct_is [] e = λ a b d h k. absurd (omega (arith, k))
 distinct_is (m ∷ ms) e =
-    let parts = and_parts (not (names_member m.name ms)) (are_distinct ms) e in
-    AllPairs-cons (λ x y. x.name ≢ y.name) m ms (no_member m.name ms m.ctype (is_not (names_member m.name ms) parts.0)) (distinct_is ms parts.1)
+    let parts = both_true (not (names_member m.name ms)) (are_distinct ms) e in
+    AllPairs-cons (λ x y. x.name ≢ y.name) m ms (no_member m.name ms m.ctype (not_true (names_member m.name ms) parts.0)) (distinct_is ms parts.1)
 
 -- ---- what stands before a list in braces
 
@@ -151,13 +148,13 @@ braced_some : (union : Option Bool) (o w : Lexeme) (rest : List Lexeme) (name : 
 braced_some union o w rest None x is called e = absurd cc
 braced_some union o w rest (Some n) x is called e =
     elim (choose_some m.OpenBrace rest None (λ after. Some (record { tree = record { union_ = union; name = Some n }; rest = after })) x e) [
-      | inl c ↦ subst (Listings (o ∷ w ∷ rest)) (some_is (record { tree = record { union_ = union; name = Some n }; rest = c.0 }) x c.2) (record { front = o ∷ w ∷ c.1.at ∷ []; parts = ap (λ (v : List Lexeme). o ∷ w ∷ v) c.1.parts; so = with_name union o w c.1.at n is called c.1.is })
+      | inl c ↦ subst (Listings (o ∷ w ∷ rest)) (same_Some (record { tree = record { union_ = union; name = Some n }; rest = c.0 }) x c.2) (record { front = o ∷ w ∷ c.1.at ∷ []; parts = ap (λ (v : List Lexeme). o ∷ w ∷ v) c.1.parts; so = with_name union o w c.1.at n is called c.1.is })
       | inr bad ↦ absurd cc
     ]
 
 after_word : (union : Option Bool) (o w : Lexeme) (rest : List Lexeme) (b : Bool) (x : Got Listing) → Word union o → fits m.OpenBrace w.kind ≡ b
     → cond b (Some (record { tree = record { union_ = union; name = None }; rest = rest })) (braced_name union rest (name_of w.kind)) ≡ Some x → Listings (o ∷ w ∷ rest) x
-after_word union o w rest true x is opens e = subst (Listings (o ∷ w ∷ rest)) (some_is (record { tree = record { union_ = union; name = None }; rest = rest }) x e) (record { front = o ∷ w ∷ []; parts = refl; so = alone union o w is (fits_is m.OpenBrace w.kind opens) })
+after_word union o w rest true x is opens e = subst (Listings (o ∷ w ∷ rest)) (same_Some (record { tree = record { union_ = union; name = None }; rest = rest }) x e) (record { front = o ∷ w ∷ []; parts = refl; so = alone union o w is (fits_is m.OpenBrace w.kind opens) })
 after_word union o w rest false x is opens e = braced_some union o w rest (name_of w.kind) x is refl e
 
 listing_word : (union : Option Bool) (o : Lexeme) (os : List Lexeme) (x : Got Listing) → Word union o → listing_after union os ≡ Some x → Listings (o ∷ os) x

@@ -14,7 +14,6 @@ ghost use Rattle.cx_cdecl.specs.Reading as spec;
 
 use crate::attributes::after_params;
 use crate::declarator::{ReadNamed, name, sizes_after};
-
 use crate::member::specs;
 use crate::param::param_list;
 use crate::specifier::ReadSpecs;

@@ -8,7 +8,6 @@ ghost use Rattle.cx_cname.specs.Known.{known_of};
 ghost use Rattle.cx_cdecl.specs.Reading.{Numbered, got_pointers, got_size, got_sizes, got_named, pointers_at, size_at, sizes_at, sized_at, name_at, object_at};
 ghost use Rattle.cx_cdecl.specs.Reading as spec;
 
-
 use cx_base::List;
 use cx_cconst::constant_value;
 use cx_cexpr::{cond, named, pointer_to, skipped};

@@ -7,7 +7,6 @@ ghost use Rattle.cx_cname.specs.Changes.{past};
 ghost use Rattle.cx_cdecl.specs.Reading.{got_value, value_at, enumerator_at, enumerators_at};
 ghost use Rattle.cx_cdecl.specs.Reading as spec;
 
-
 use cx_base::List;
 use cx_cconst::constant_value;
 use cx_cexpr::{cond, named};

@@ -3,6 +3,7 @@ use Rattle.std.proofs.Common.{◌≡◌, ℕ, zero, suc, ◌+◌, ◌-◌, ◌*�
 use Rattle.std.proofs.lemmas.Bool.{cases_Bool}
 use Rattle.std.specs.Prelude.{◌&&◌}
 use Rattle.cx_base.specs.declared.span.Span.{Span}
+use Rattle.cx_base.proofs.General.{not_both_ways}
 use Rattle.cx_ctree.specs.declared.expr.Binary.{Binary}
 use Rattle.cx_ctree.specs.Types.{TypeTree}
 use Rattle.cx_ctree.specs.Exprs.{ExprTree, CallTree, RhsTree, value, call, EffectTree, set, update}
@@ -52,10 +53,6 @@ comma_closed o rest e = ap Rattle.cx_ceffect.proofs.Follows.closes e
 
 apart_ends : (o : Lexeme) (rest : List Lexeme) → Apart o.kind → Ends 0 (o ∷ rest)
 apart_ends o rest h = let is = h.loose in omega (arith, is)
-
-opens_true : (b : Bool) → b ≡ true → b ≡ false → ⊥
-opens_true true e f = cc
-opens_true false e f = cc
 
 call_same : (v : ℕ) (xs : List ExprTree) (front rest : List Lexeme) (first past : ℕ) → first_of front ≡ first → past_of front ≡ past
     → ◌≡◌ {A = Got CallTree} (called_at first v (record { tree = xs; past = past; rest = rest })) (got_of front (record { span = span_of front; name = v; args = xs }) rest)
@@ -152,7 +149,7 @@ module _ (env : Known) (few : Few env) where
 
   -- a cast expression that begins with a type begins with one in parentheses, after which no call stands
   cast_led : {lead : List Lexeme} {x : ExprTree} → IsCast env lead x → (d : ℕ) (tail : List Lexeme) → opens_type env (lead ++ tail) ≡ true → opens tail ≡ false → expr_path x ≤ d → (t : Got TypeTree) × (enclosed_at env d (lead ++ tail) ≡ Some t) × (calls t.rest ≡ false)
-  cast_led (no_cast {os = os} h) d tail e off low = absurd (opens_true (opens_type env (os ++ tail)) e (unary_no_cast h tail))
+  cast_led (no_cast {os = os} h) d tail e off low = absurd (not_both_ways (opens_type env (os ++ tail)) e (unary_no_cast h tail))
   cast_led (casted {a = a} {c = c} {t = t} o m opening ty close h) d tail e off low =
       let parts : (a ++ m ∷ c) ++ tail ≡ a ++ m ∷ (c ++ tail) = append_assoc a (m ∷ c) tail in
       (record { tree = t; past = m.span.past; rest = c ++ tail }, ap (λ (v : List Lexeme). enclosed_at env d (o ∷ v)) parts ∙ enclosed_there env few d o m (c ++ tail) opening ty close (omega (arith, low)), cast_no_call h tail off)
@@ -245,7 +242,7 @@ module _ (env : Known) (few : Few env) where
       let off = goes_apart o.kind on in
       let same = rest_stays env n d first u y o ts is off.no_op off.no_question e in
       let closed : Closed (o ∷ ts) = subst Closed (ap (λ (v : Got ExprTree). v.rest) (sym same) ∙ is) ends in
-      opens_true (goes_on (after_of o.kind)) on (ap goes_on (closes_other o.kind closed))
+      not_both_ways (goes_on (after_of o.kind)) on (ap goes_on (closes_other o.kind closed))
 
   -- a value whose first operand was read
   after_value_by : (n d first : ℕ) (postfix : Bool) (u y : Got ExprTree) (o : Lexeme) (ts : List Lexeme) (a : After) → rest_from env n d first u ≡ Some y → Closed y.rest → u.rest ≡ o ∷ ts → after_of o.kind ≡ a → after_by env n d postfix first u o ts a ≡ value_effect y

@@ -1,6 +1,7 @@
 -- What follows an effect and what begins one.
 use Rattle.std.proofs.Common.{◌≡◌, ℕ, ◌≤◌, Bool, true, false, List, [], ◌∷◌, ◌++◌, Option, Some, None, refl, ap, ◌∙◌, append_assoc, arith}
 use Rattle.std.specs.Prelude.{is_some, ◌&&◌}
+use Rattle.cx_base.proofs.General.{and_false}
 use Rattle.cx_ctree.specs.declared.expr.Binary.{Binary}
 use Rattle.cx_ctree.specs.declared.expr.Binary.TheVariants as b
 use Rattle.cx_ctree.specs.Exprs.{ExprTree, CallTree, EffectTree}
@@ -184,10 +185,6 @@ call_calls (call_with {a = a} o m c n e f h g) rest = calls_so o m n ((a ++ c �
 
 pub calls_off : (o : Lexeme) (os : List Lexeme) → name_of o.kind ≡ None → calls (o ∷ os) ≡ false
 calls_off o os e = ap (λ (v : Option ℕ). is_some v && opens os) e
-
-and_false : (a : Bool) → (a && false) ≡ false
-and_false true = refl
-and_false false = refl
 
 calls_alone : (o : Lexeme) (os : List Lexeme) → opens os ≡ false → calls (o ∷ os) ≡ false
 calls_alone o os e = ap (λ (v : Bool). is_some (name_of o.kind) && v) e ∙ and_false (is_some (name_of o.kind))

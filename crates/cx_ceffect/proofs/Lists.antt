@@ -1,12 +1,9 @@
 -- Lists that grow at their ends, and heights.
 use Rattle.std.proofs.Common.{◌≡◌, ℕ, ◌≤◌, List, [], ◌∷◌, ◌++◌, refl, ap, arith}
 use Rattle.std.specs.Prelude.{map, max}
+use Rattle.cx_base.proofs.General.{map_push}
 use Rattle.cx_ctree.specs.Exprs.{ExprTree, node}
 use Rattle.cx_ctree.specs.Path.{greatest, expr_path}
-
-pub map_push : {A B : Type 0} (f : A → B) (xs : List A) (x : A) → map f (xs ++ x ∷ []) ≡ map f xs ++ f x ∷ []
-map_push f [] x = refl
-map_push f (y ∷ xs) x = ap (λ (v : List _). f y ∷ v) (map_push f xs x)
 
 pub greatest_push : {A : Type 0} (f : A → ℕ) (xs : List A) (x : A) → greatest f (xs ++ x ∷ []) ≡ max (greatest f xs) (f x)
 greatest_push f [] x = omega arith

@@ -7,6 +7,7 @@ use Rattle.cx_cword.specs.declared.lexeme.Lexeme.{Lexeme}
 use Rattle.cx_cword.specs.Reading.{first_of, past_of}
 use Rattle.cx_cname.specs.Known.{Known}
 use Rattle.std.proofs.Common.{Some}
+use Rattle.cx_base.proofs.General.{not_both_ways}
 use Rattle.cx_cexpr.specs.Expressions.{prefixed_by, IsUnary, no_prefix, prefixed, size_of_value, size_of_type, IsPostfix}
 use Rattle.cx_cexpr.proofs.Spans.{first-append, past-append}
 use Rattle.cx_ceffect.specs.Kinds as kinds
@@ -42,12 +43,8 @@ prefix_marks p.Star x y e = refl
 prefix_marks p.Ampersand x y e = refl
 prefix_marks _ x y e = absurd cc
 
-both : (b : Bool) → b ≡ true → b ≡ false → ⊥
-both true e f = cc
-both false e f = cc
-
 pub unary_postfix : {env : Known} {os : List Lexeme} {x : ExprTree} → IsUnary env os x → starts_postfix os ≡ true → IsPostfix env os x
 unary_postfix (no_prefix h) e = h
-unary_postfix (prefixed {x = x} o mark y is h f) e = absurd (both (begins_postfix o.kind) e (ap begins_postfix is ∙ prefix_marks mark x y f))
-unary_postfix (size_of_value o is h) e = absurd (both (begins_postfix o.kind) e (ap begins_postfix is))
-unary_postfix (size_of_type o m c is i h j) e = absurd (both (begins_postfix o.kind) e (ap begins_postfix is))
+unary_postfix (prefixed {x = x} o mark y is h f) e = absurd (not_both_ways (begins_postfix o.kind) e (ap begins_postfix is ∙ prefix_marks mark x y f))
+unary_postfix (size_of_value o is h) e = absurd (not_both_ways (begins_postfix o.kind) e (ap begins_postfix is))
+unary_postfix (size_of_type o m c is i h j) e = absurd (not_both_ways (begins_postfix o.kind) e (ap begins_postfix is))

@@ -1,6 +1,7 @@
 -- What is read as a call, a right side or an effect is spelled so.
 use Rattle.std.proofs.Common.{◌≡◌, ℕ, zero, suc, ◌-◌, ◌<◌, ◌≤◌, true, false, cond, List, [], ◌∷◌, ◌++◌, length, Option, Some, None, refl, sym, ap, ◌∙◌, subst, append_assoc, arith, length-append, inl, inr}
 use Rattle.std.specs.Prelude.{max}
+use Rattle.std.proofs.lemmas.Option.{same_Some}
 use Rattle.cx_base.specs.declared.span.Span.{Span}
 use Rattle.cx_ctree.specs.declared.expr.Binary.{Binary}
 use Rattle.cx_ctree.specs.Types.{TypeTree}
@@ -14,7 +15,7 @@ use Rattle.cx_cword.specs.declared.mark.Mark.TheVariants as m
 use Rattle.cx_cexpr.specs.Expressions.{IsCond, IsUnary}
 use Rattle.cx_cexpr.specs.Reading.{Got, wanted, opens_type, enclosed_at, cond_at, unary_at}
 use Rattle.cx_cexpr.proofs.Spans.{first-append, past-append, spanned}
-use Rattle.cx_cexpr.proofs.Steps.{bind_some, some_is, at_first, at_rest, pick, test_some, wanted_some, named_some, Found}
+use Rattle.cx_cexpr.proofs.Steps.{bind_some, at_first, at_rest, pick, test_some, wanted_some, named_some, Found}
 use Rattle.cx_cexpr.proofs.TypeSound.{Enclosed, enclosed_sound}
 use Rattle.cx_cexpr.proofs.Begins.{cond_filled, unary_filled}
 use Rattle.cx_cexpr.proofs.Sound.{FoundExpr, cond_sound, unary_sound}
@@ -98,7 +99,7 @@ module _ (env : Known) where
         tree = sym (append_assoc all (x.tree ∷ []) q.xs) ∙ q.tree;
         low = let a = f.low in let b = q.low in omega arith;
       }
-  argument_step d again sound all whole x c ts s.Close g f is kind e = subst (FoundArguments d all whole) (some_is (record { tree = all ++ x.tree ∷ []; past = c.span.past; rest = ts }) g e) (record {
+  argument_step d again sound all whole x c ts s.Close g f is kind e = subst (FoundArguments d all whole) (same_Some (record { tree = all ++ x.tree ∷ []; past = c.span.past; rest = ts }) g e) (record {
     front = f.front;
     xs = x.tree ∷ [];
     close = c;
@@ -139,7 +140,7 @@ module _ (env : Known) where
   }
 
   enclosed_none : (d : ℕ) (c : Lexeme) (ts : List Lexeme) (g : Got (List ExprTree)) → Is p.CloseParen c → Some (record { tree = []; past = c.span.past; rest = ts }) ≡ Some g → FoundEnclosed d (c ∷ ts) g
-  enclosed_none d c ts g closes e = subst (FoundEnclosed d (c ∷ ts)) (some_is (record { tree = []; past = c.span.past; rest = ts }) g e) (record {
+  enclosed_none d c ts g closes e = subst (FoundEnclosed d (c ∷ ts)) (same_Some (record { tree = []; past = c.span.past; rest = ts }) g e) (record {
     front = [];
     close = c;
     parts = refl;
@@ -161,7 +162,7 @@ module _ (env : Known) where
   found_call d v o m ts x g name opens f e =
       let front : List Lexeme = o ∷ m ∷ f.front ++ f.close ∷ [] in
       let ends : past_of front ≡ x.past = past-append (o ∷ m ∷ f.front) (f.close ∷ []) (omega arith) ∙ f.past in
-      subst (FoundCall env d (o ∷ m ∷ ts)) (some_is (called_at o.span.first v x) g e) (record {
+      subst (FoundCall env d (o ∷ m ∷ ts)) (same_Some (called_at o.span.first v x) g e) (record {
         front = front;
         parts = ap (λ (w : List Lexeme). o ∷ m ∷ w) (f.parts ∙ sym (append_assoc f.front (f.close ∷ []) x.rest));
         spelled_so = subst (λ (z : Span). IsCall env front (record { span = z; name = v; args = x.tree })) (spanned front o.span.first x.past refl ends) (f.spelled_so o m v name opens);
@@ -180,13 +181,13 @@ module _ (env : Known) where
   -- ---- right sides
 
   rhs_is_value : (d : ℕ) (whole : List Lexeme) (x : Got ExprTree) (g : Got RhsTree) → FoundExpr (IsCond env) d whole x → reading.rhs_value x ≡ Some g → FoundRhs env d whole g
-  rhs_is_value d whole x g f e = subst (FoundRhs env d whole) (some_is (record { tree = value x.tree; past = x.past; rest = x.rest }) g e) (record { front = f.front; parts = f.parts; spelled_so = rhs_value f.spelled_so; past = f.past; low = f.low })
+  rhs_is_value d whole x g f e = subst (FoundRhs env d whole) (same_Some (record { tree = value x.tree; past = x.past; rest = x.rest }) g e) (record { front = f.front; parts = f.parts; spelled_so = rhs_value f.spelled_so; past = f.past; low = f.low })
 
   rhs_is_call : (d : ℕ) (whole : List Lexeme) (x : Got CallTree) (g : Got RhsTree) → FoundCall env d whole x → reading.rhs_call None x ≡ Some g → FoundRhs env d whole g
-  rhs_is_call d whole x g f e = subst (FoundRhs env d whole) (some_is (record { tree = call x.tree None; past = x.past; rest = x.rest }) g e) (record { front = f.front; parts = f.parts; spelled_so = rhs_call f.spelled_so; past = f.past; low = let a = f.low in omega arith })
+  rhs_is_call d whole x g f e = subst (FoundRhs env d whole) (same_Some (record { tree = call x.tree None; past = x.past; rest = x.rest }) g e) (record { front = f.front; parts = f.parts; spelled_so = rhs_call f.spelled_so; past = f.past; low = let a = f.low in omega arith })
 
   rhs_is_cast : (d : ℕ) (whole : List Lexeme) (t : Got TypeTree) (x : Got CallTree) (g : Got RhsTree) → Enclosed env d whole t → FoundCall env d t.rest x → reading.rhs_call (Some t.tree) x ≡ Some g → FoundRhs env d whole g
-  rhs_is_cast d whole t x g q f e = subst (FoundRhs env d whole) (some_is (record { tree = call x.tree (Some t.tree); past = x.past; rest = x.rest }) g e) (record {
+  rhs_is_cast d whole t x g q f e = subst (FoundRhs env d whole) (same_Some (record { tree = call x.tree (Some t.tree); past = x.past; rest = x.rest }) g e) (record {
     front = q.open_mark ∷ q.front ++ q.close_mark ∷ f.front;
     parts = q.parts ∙ ap (λ (v : List Lexeme). q.open_mark ∷ v) (ap (λ (v : List Lexeme). q.front ++ q.close_mark ∷ v) f.parts ∙ sym (append_assoc q.front (q.close_mark ∷ f.front) x.rest));
     spelled_so = rhs_cast q.open_mark q.close_mark q.opens q.spelled_so q.closes f.spelled_so;
@@ -219,15 +220,15 @@ module _ (env : Known) where
   -- ---- effects
 
   effect_is_value : (d : ℕ) (whole : List Lexeme) (x : Got ExprTree) (g : Got EffectTree) → FoundExpr (IsCond env) d whole x → value_effect x ≡ Some g → FoundEffect env d whole g
-  effect_is_value d whole x g f e = subst (FoundEffect env d whole) (some_is (record { tree = value_alone x.tree; past = x.past; rest = x.rest }) g e) (record { front = f.front; parts = f.parts; spelled_so = evaluated f.spelled_so; past = f.past; low = f.low })
+  effect_is_value d whole x g f e = subst (FoundEffect env d whole) (same_Some (record { tree = value_alone x.tree; past = x.past; rest = x.rest }) g e) (record { front = f.front; parts = f.parts; spelled_so = evaluated f.spelled_so; past = f.past; low = f.low })
 
   effect_is_call : (d : ℕ) (whole : List Lexeme) (x : Got CallTree) (g : Got EffectTree) → FoundCall env d whole x → call_effect x ≡ Some g → FoundEffect env d whole g
-  effect_is_call d whole x g f e = subst (FoundEffect env d whole) (some_is (record { tree = call_alone x.tree; past = x.past; rest = x.rest }) g e) (record { front = f.front; parts = f.parts; spelled_so = called f.spelled_so; past = f.past; low = f.low })
+  effect_is_call d whole x g f e = subst (FoundEffect env d whole) (same_Some (record { tree = call_alone x.tree; past = x.past; rest = x.rest }) g e) (record { front = f.front; parts = f.parts; spelled_so = called f.spelled_so; past = f.past; low = f.low })
 
   -- an effect that spells a tree with its own place
   placed : (d first : ℕ) (whole front rest : List Lexeme) (past : ℕ) (tree : Span → EffectTree) (g : Got EffectTree) → whole ≡ front ++ rest → first_of front ≡ first → past_of front ≡ past → IsEffect env front (tree (span_of front)) → effect_path (tree (span_between first past)) ≤ d
       → Some (record { tree = tree (span_between first past); past = past; rest = rest }) ≡ Some g → FoundEffect env d whole g
-  placed d first whole front rest past tree g parts begins ends so low e = subst (FoundEffect env d whole) (some_is (record { tree = tree (span_between first past); past = past; rest = rest }) g e) (record {
+  placed d first whole front rest past tree g parts begins ends so low e = subst (FoundEffect env d whole) (same_Some (record { tree = tree (span_between first past); past = past; rest = rest }) g e) (record {
     front = front;
     parts = parts;
     spelled_so = subst (λ (z : Span). IsEffect env front (tree z)) (spanned front first past begins ends) so;
@@ -342,7 +343,7 @@ module _ (env : Known) where
   done_with all x = record { tree = all ++ x.tree ∷ []; past = x.past; rest = x.rest }
 
   last_found : (d : ℕ) (all : List EffectTree) (whole : List Lexeme) (x : Got EffectTree) (g : Got (List EffectTree)) → FoundEffect env d whole x → Some (done_with all x) ≡ Some g → FoundMore d all whole g
-  last_found d all whole x g f e = subst (FoundMore d all whole) (some_is (done_with all x) g e) (record {
+  last_found d all whole x g f e = subst (FoundMore d all whole) (same_Some (done_with all x) g e) (record {
     front = f.front;
     es = x.tree ∷ [];
     parts = f.parts;

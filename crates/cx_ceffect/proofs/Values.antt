@@ -1,5 +1,6 @@
 -- A value that is read from its first operand on is read as a conditional expression.
 use Rattle.std.proofs.Common.{◌≡◌, ℕ, zero, suc, ◌-◌, Bool, false, cond, List, ◌∷◌, Option, Some, None, refl, sym, ap, ◌∙◌, arith, pred}
+use Rattle.std.proofs.lemmas.Option.{same_Some}
 use Rattle.cx_ctree.specs.Exprs.{ExprTree}
 use Rattle.cx_cword.specs.declared.lexeme.Lexeme.{Lexeme}
 use Rattle.cx_cword.specs.Reading.{◌>>=◌, at_lexeme}
@@ -7,7 +8,7 @@ use Rattle.cx_cname.specs.Known.{Known}
 use Rattle.cx_cword.specs.declared.mark.Mark.TheVariants as m
 use Rattle.cx_cexpr.specs.Kinds.{op_at}
 use Rattle.cx_cexpr.specs.Reading.{Got, opens_type, enclosed_at, cast_to, more_by, choice_by, cond_at, choice_at, binary_at, climb_at, more_at, cast_at, unary_at}
-use Rattle.cx_cexpr.proofs.Steps.{bind_some, some_is}
+use Rattle.cx_cexpr.proofs.Steps.{bind_some}
 use Rattle.cx_cword.specs.Marks.{fits}
 
 bind_assoc : {A B C : Type 0} (o : Option A) (f : A → Option B) (g : B → Option C) → ((o >>= f) >>= g) ≡ (o >>= λ x. f x >>= g)
@@ -39,7 +40,7 @@ module _ (env : Known) where
   more_stays : (n d level first : ℕ) (x y : Got ExprTree) (o : Lexeme) (ts : List Lexeme) → x.rest ≡ o ∷ ts → op_at o.kind ≡ None → more_at env n d level first x ≡ Some y → x ≡ y
   unfolding cond_at
   more_stays zero d level first x y o ts is off e = absurd cc
-  more_stays (suc n) d level first x y o ts is off e = some_is x y (sym (
+  more_stays (suc n) d level first x y o ts is off e = same_Some x y (sym (
       ap (λ (r : List Lexeme). at_lexeme r (Some x) (λ o ts. more_by (binary_at env n (d - 1) (pred level)) (more_at env n d level first) d level first x ts (op_at o.kind))) is
       ∙ ap (more_by (binary_at env n (d - 1) (pred level)) (more_at env n d level first) d level first x ts) off
       ) ∙ e)
@@ -47,7 +48,7 @@ module _ (env : Known) where
   climb_stays : (n d level first : ℕ) (x y : Got ExprTree) (o : Lexeme) (ts : List Lexeme) → x.rest ≡ o ∷ ts → op_at o.kind ≡ None → climb_at env n d level first x ≡ Some y → x ≡ y
   unfolding cond_at
   climb_stays zero d level first x y o ts is off e = absurd cc
-  climb_stays (suc n) d zero first x y o ts is off e = some_is x y e
+  climb_stays (suc n) d zero first x y o ts is off e = same_Some x y e
   climb_stays (suc n) d (suc level) first x y o ts is off e =
       let b = bind_some (climb_at env n d level first x) (more_at env n d (suc level) first) y e in
       let same = climb_stays n d level first x b.0 o ts is off b.1 in
@@ -56,7 +57,7 @@ module _ (env : Known) where
   choice_stays : (n d first : ℕ) (x y : Got ExprTree) (o : Lexeme) (ts : List Lexeme) → x.rest ≡ o ∷ ts → fits m.Question o.kind ≡ false → choice_at env n d first x ≡ Some y → x ≡ y
   unfolding cond_at
   choice_stays zero d first x y o ts is off e = absurd cc
-  choice_stays (suc n) d first x y o ts is off e = some_is x y (sym (
+  choice_stays (suc n) d first x y o ts is off e = same_Some x y (sym (
       ap (λ (r : List Lexeme). at_lexeme r (Some x) (λ o ts. cond (fits m.Question o.kind) (choice_by (cond_at env n (d - 1)) d first x ts) (Some x))) is
       ∙ ap (λ (b : Bool). cond b (choice_by (cond_at env n (d - 1)) d first x ts) (Some x)) off
       ) ∙ e)

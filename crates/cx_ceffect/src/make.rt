@@ -70,7 +70,7 @@ pub fn higher(a: u32, b: u32) -> u32
 }
 
 /// With one argument more.
-#[tactic(auto, using(crate::proofs::Lists::map_push))]
+#[tactic(auto, using(cx_base::proofs::General::map_push))]
 pub fn add_argument(all: &mut List<Expr>, x: Expr) -> Result<(), NoMemory>
     ensures { OnOk result (map expr_tree all.new ≡ map expr_tree all.old ++ expr_tree x ∷ []) }
 {
@@ -78,7 +78,7 @@ pub fn add_argument(all: &mut List<Expr>, x: Expr) -> Result<(), NoMemory>
 }
 
 /// With one effect more.
-#[tactic(auto, using(crate::proofs::Lists::map_push))]
+#[tactic(auto, using(cx_base::proofs::General::map_push))]
 pub fn add_effect(all: &mut List<Effect>, x: Effect) -> Result<(), NoMemory>
     ensures { OnOk result (map effect_tree all.new ≡ map effect_tree all.old ++ effect_tree x ∷ []) }
 {

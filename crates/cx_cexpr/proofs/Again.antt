@@ -618,4 +618,4 @@ module _ (env : Known) (few : Few env) where
       let n : ℕ = 16 * length (front ++ []) + 5 in
       let d : ℕ = max (expr_path t) (expr_path u) in
       let same : Some (got_of front t []) ≡ Some (got_of front u []) = sym (cond_there h n d [] tt (omega arith) (omega arith)) ∙ cond_there g n d [] tt (omega arith) (omega arith) in
-      ap (λ (x : Got ExprTree). x.tree) (Rattle.cx_cexpr.proofs.Steps.some_is (got_of front t []) (got_of front u []) same)
+      ap (λ (x : Got ExprTree). x.tree) (Rattle.std.proofs.lemmas.Option.same_Some (got_of front t []) (got_of front u []) same)

@@ -4,6 +4,7 @@ use Rattle.std.specs.Prelude.{is_some, ◌&&◌}
 use Rattle.cx_ctree.specs.Types.{TypeTree}
 use Rattle.cx_ctree.specs.Exprs.{ExprTree}
 use Rattle.cx_base.specs.declared.number.CInt.{CInt}
+use Rattle.cx_base.proofs.General.{not_true, and_false}
 use Rattle.cx_cword.specs.declared.word.Keyword.{Keyword}
 use Rattle.cx_cword.specs.declared.word.Keyword.TheVariants as k
 use Rattle.cx_cword.specs.declared.lexeme.Lexeme.{Lexeme}
@@ -67,12 +68,8 @@ pub primary_starts_so : (env : Known) (a : List Lexeme) → starts_primary env a
 primary_starts_so env [] e = absurd e
 primary_starts_so env (o ∷ a) e = ap (λ (x : Head). starts_head env x (leaf_of o.kind)) e.0 ∙ e.1
 
-not_type : (b : Bool) → not b ≡ true → b ≡ false
-not_type true e = absurd cc
-not_type false e = refl
-
 name_apart : (env : Known) (o : Option ℕ) → starts_leaf env (leaf_name o) ≡ true → begins_base env (base_name o) ≡ false
-name_apart env (Some n) e = not_type (names_type env n) e
+name_apart env (Some n) e = not_true (names_type env n) e
 name_apart env None e = absurd cc
 
 -- no lexeme begins both
@@ -93,10 +90,6 @@ starts_no_type env (o ∷ a) e = apart env o.kind e
 pub starts_word : (env : Known) (word : Keyword) → starts_by env (l.Keyword word) ≡ true → word ≡ k.SizeOf
 starts_word env k.SizeOf e = refl
 starts_word env _ e = absurd cc
-
-and_false : (a : Bool) → (a && false) ≡ false
-and_false true = refl
-and_false false = refl
 
 opens_no_type : (env : Known) (o : Lexeme) (os : List Lexeme) → begins_type env os ≡ false → opens_type env (o ∷ os) ≡ false
 opens_no_type env o os e = ap (λ (b : Bool). fits m.OpenParen o.kind && b) e ∙ and_false (fits m.OpenParen o.kind)

@@ -2,6 +2,7 @@
 use Rattle.std.proofs.Common.{◌≡◌, ℕ, suc, ◌+◌, ◌*◌, ◌≤◌, Bool, true, cond, List, [], ◌∷◌, ◌++◌, length, Option, Some, None, refl, sym, ap, ◌∙◌, append_assoc, append-nil, arith}
 use Rattle.std.proofs.lemmas.Bool.Decides.{nat_tests}
 use Rattle.std.specs.Prelude.{option_and_then, nat_lt, nat_eq}
+use Rattle.std.proofs.lemmas.Option.{same_Some}
 use Rattle.cx_base.specs.declared.number.CInt.{CInt}
 use Rattle.cx_cword.specs.declared.lexeme.Lexeme.{Lexeme}
 use Rattle.cx_cexpr.specs.declared.kinds.IntWord.{IntWord}
@@ -10,7 +11,7 @@ use Rattle.cx_cexpr.specs.IntWords.{Counts, no_word, counted, counts_of, is_list
 use Rattle.cx_cexpr.specs.Kinds.{word_of}
 use Rattle.cx_cexpr.specs.Reading.{Got, with_word, next_words, words_by, words_at, int_of}
 use Rattle.cx_cexpr.proofs.Spans.{past_from, past_from-cons}
-use Rattle.cx_cexpr.proofs.Steps.{bind_some, some_is}
+use Rattle.cx_cexpr.proofs.Steps.{bind_some}
 use Rattle.cx_ctree.proofs.Numbers.{number_same}
 use Rattle.cx_cexpr.proofs.IntWords.{words_none, words_more, words_stop}
 use Rattle.cx_cexpr.proofs.Counting.{counted_some, counted_by, counts_push, words_commute, sizes, signs}
@@ -73,12 +74,12 @@ record Part (x : List Lexeme) (c : Counts) : Type 0 where
   more : with_words us n ≡ c
 
 all_words : (y : List Lexeme) (c : Counts) → counts_of y ≡ Some c → Part [] c
-all_words [] c e = record { n = no_word; us = []; are = refl; more = some_is no_word c e }
+all_words [] c e = record { n = no_word; us = []; are = refl; more = same_Some no_word c e }
 all_words (o ∷ y) c e =
     let b = bind_some (counts_of y) (counted o.kind) c e in
     let u = counted_some o.kind b.0 c b.2 in
     let h = all_words y b.0 b.1 in
-    let same : no_word ≡ h.n = some_is no_word h.n h.are in
+    let same : no_word ≡ h.n = same_Some no_word h.n h.are in
     record { n = no_word; us = u.0 ∷ h.us; are = refl; more = ap (λ v. with_word u.0 (with_words h.us v)) same ∙ ap (with_word u.0) h.more ∙ u.2 }
 
 part_of : (x y : List Lexeme) (c : Counts) → counts_of (x ++ y) ≡ Some c → Part x c
@@ -102,13 +103,13 @@ listed_next : (n : Counts) (u : IntWord) (o : Option IntWord) → o ≡ Some u �
 listed_next n u o e listed = ap (next_words n) e ∙ ap (λ (b : Bool). cond b (Some (with_word u n)) None) listed
 
 pub words_read : (b a : List Lexeme) (n c : Counts) (past : ℕ) (more : List Lexeme) → counts_of a ≡ Some n → counts_of (a ++ b) ≡ Some c → is_listed c ≡ true → words_at n past (b ++ more) ≡ words_at c (past_from past b) more
-words_read [] a n c past more are all listed = ap (λ (m : Counts). words_at m past more) (some_is n c (sym are ∙ ap counts_of (sym (append-nil a)) ∙ all))
+words_read [] a n c past more are all listed = ap (λ (m : Counts). words_at m past more) (same_Some n c (sym are ∙ ap counts_of (sym (append-nil a)) ∙ all))
 words_read (o ∷ b) a n c past more are all listed =
     let u = word_among a b o c all in
     let grouped : counts_of ((a ++ o ∷ []) ++ b) ≡ Some c = ap counts_of (append_assoc a (o ∷ []) b) ∙ all in
     let h = part_of (a ++ o ∷ []) b c grouped in
     let pushed = counts_push a o n u.0 are u.1 in
-    let same : with_word u.0 n ≡ h.n = some_is (with_word u.0 n) h.n (sym pushed ∙ h.are) in
+    let same : with_word u.0 n ≡ h.n = same_Some (with_word u.0 n) h.n (sym pushed ∙ h.are) in
     let low : is_listed h.n ≡ true = with_words_listed h.us h.n (ap is_listed h.more ∙ listed) in
     let next = listed_next n u.0 (word_of o.kind) u.1 (ap is_listed same ∙ low) in
     words_more n (with_word u.0 n) past o (b ++ more) next ∙ words_read b (a ++ o ∷ []) (with_word u.0 n) c o.span.past more pushed grouped listed ∙ ap (λ (v : ℕ). words_at c v more) (sym (past_from-cons past o b))

@@ -3,6 +3,7 @@ use Rattle.std.proofs.Common.{◌≡◌, ℕ, ◌<◌, Bool, true, false, cond, 
 use Rattle.std.proofs.lemmas.Bool.{cases_Bool}
 use Rattle.std.proofs.lemmas.Bool.Decides.{nat_tests}
 use Rattle.std.specs.Prelude.{option_map, option_and_then, nat_eq, nat_lt}
+use Rattle.std.proofs.lemmas.Option.{same_Some}
 use Rattle.cx_cword.specs.declared.word.Keyword.TheVariants as k
 use Rattle.cx_cword.specs.declared.lexeme.Lexeme.{Lexeme}
 use Rattle.cx_cword.specs.declared.lexeme.LexemeKind.{LexemeKind}
@@ -14,7 +15,7 @@ use Rattle.cx_cexpr.specs.IntWords.{Counts, no_word, counted, counts_of, is_list
 use Rattle.cx_cexpr.specs.Kinds.{word_of}
 use Rattle.cx_cexpr.specs.Reading.{Got, with_word, next_words, words_by, words_at, byte_int, short_int, long_int, plain_int, int_of}
 use Rattle.cx_cexpr.proofs.Spans.{past-append}
-use Rattle.cx_cexpr.proofs.Steps.{bind_some, some_is}
+use Rattle.cx_cexpr.proofs.Steps.{bind_some}
 
 pub counted_word : (kind : LexemeKind) (n : Counts) → counted kind n ≡ option_map (λ u. with_word u n) (word_of kind)
 counted_word (l.Keyword k.Char) n = refl
@@ -45,7 +46,7 @@ words_commute _ w.Signed n = refl
 words_commute _ w.Unsigned n = refl
 
 some_word : (o : Option IntWord) (m n : Counts) → option_map (λ u. with_word u m) o ≡ Some n → (u : IntWord) × (o ≡ Some u) × (with_word u m ≡ n)
-some_word (Some u) m n e = (u, refl, some_is (with_word u m) n e)
+some_word (Some u) m n e = (u, refl, same_Some (with_word u m) n e)
 some_word None m n e = absurd cc
 
 pub counted_some : (kind : LexemeKind) (m n : Counts) → counted kind m ≡ Some n → (u : IntWord) × (word_of kind ≡ Some u) × (with_word u m ≡ n)
@@ -60,7 +61,7 @@ counted_after kind v m n e =
     counted_by kind c.0 (with_word v m) c.1 ∙ ap Some (words_commute c.0 v m ∙ ap (with_word v) c.2)
 
 pub counts_push : (ws : List Lexeme) (o : Lexeme) (n : Counts) (v : IntWord) → counts_of ws ≡ Some n → word_of o.kind ≡ Some v → counts_of (ws ++ o ∷ []) ≡ Some (with_word v n)
-counts_push [] o n v e is = counted_by o.kind v no_word is ∙ ap (λ m. Some (with_word v m)) (some_is no_word n e)
+counts_push [] o n v e is = counted_by o.kind v no_word is ∙ ap (λ m. Some (with_word v m)) (same_Some no_word n e)
 counts_push (x ∷ ws) o n v e is =
     let c = bind_some (counts_of ws) (counted x.kind) n e in
     ap (option_and_then (counted x.kind)) (counts_push ws o c.0 v c.1 is) ∙ counted_after x.kind v c.0 n c.2
@@ -68,7 +69,7 @@ counts_push (x ∷ ws) o n v e is =
 next_some : (n m : Counts) (o : Option IntWord) → next_words n o ≡ Some m → (u : IntWord) × (o ≡ Some u) × (with_word u n ≡ m) × (is_listed m ≡ true)
 next_some n m None e = absurd cc
 next_some n m (Some u) e = elim (cases_Bool (is_listed (with_word u n))) [
-  | inl yes' ↦ let f : with_word u n ≡ m = some_is (with_word u n) m (rw yes' at e) in (u, refl, f, subst (λ (c : Counts). is_listed c ≡ true) f yes')
+  | inl yes' ↦ let f : with_word u n ≡ m = same_Some (with_word u n) m (rw yes' at e) in (u, refl, f, subst (λ (c : Counts). is_listed c ≡ true) f yes')
   | inr no' ↦ absurd (cc (rw no' at e))
 ]
 

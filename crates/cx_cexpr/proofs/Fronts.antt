@@ -1,6 +1,7 @@
 -- The longest type at a front, and the first operand of an expression.
 use Rattle.std.proofs.Common.{◌≡◌, ℕ, ◌+◌, ◌*◌, ◌≤◌, true, false, List, [], ◌∷◌, ◌++◌, length, Option, Some, None, sym, ap, ◌∙◌, subst, arith}
 use Rattle.std.specs.Prelude.{max}
+use Rattle.std.proofs.lemmas.Option.{same_Some}
 use Rattle.cx_ctree.specs.Types.{TypeTree}
 use Rattle.cx_ctree.specs.Exprs.{ExprTree}
 use Rattle.cx_ctree.specs.Path.{type_path, expr_path}
@@ -9,7 +10,6 @@ use Rattle.cx_cword.specs.Reading.{first_of}
 use Rattle.cx_cname.specs.Known.{Known}
 use Rattle.cx_cexpr.specs.Expressions.{IsBase, IsType, IsCond, IsCast, no_cast, casted, IsUnary}
 use Rattle.cx_cexpr.specs.Reading.{Got, Few, base_at, type_at, opens_type, rest_at}
-use Rattle.cx_cexpr.proofs.Steps.{some_is}
 use Rattle.cx_cexpr.proofs.TypeSound.{FoundBase, FoundType, base_sound, type_sound}
 use Rattle.cx_cexpr.proofs.TypeAgain.{got_of, GoesOn, base_there, base_longest, type_there, type_longest}
 use Rattle.cx_cexpr.proofs.Begins.{begins-append, type_begins}
@@ -23,7 +23,7 @@ module _ (env : Known) (few : Few env) (d : ℕ) where
     pub longest : (front rest : List Lexeme) (t : TypeTree) → os ≡ front ++ rest → IsType env front t → type_path t ≤ d → length g.rest ≤ length rest
 
   goes_less : (rest : List Lexeme) (r : Option (Got TypeTree)) (g : Got TypeTree) → GoesOn rest r → r ≡ Some g → length g.rest ≤ length rest
-  goes_less rest r g h e = let same : h.g ≡ g = some_is h.g g (sym h.is ∙ e) in subst (λ (x : Got TypeTree). length x.rest ≤ length rest) same h.less
+  goes_less rest r g h e = let same : h.g ≡ g = same_Some h.g g (sym h.is ∙ e) in subst (λ (x : Got TypeTree). length x.rest ≤ length rest) same h.less
 
   goes_not_none : (rest : List Lexeme) (r : Option (Got TypeTree)) → GoesOn rest r → r ≡ None → ⊥
   goes_not_none rest r h e = let is = h.is in cc
@@ -59,13 +59,13 @@ module _ (env : Known) (few : Few env) where
   type_only {front} {t} {u} h g =
       let d : ℕ = max (type_path t) (type_path u) in
       let same : Some (got_of front t []) ≡ Some (got_of front u []) = sym (type_there env few d h [] tt tt (omega arith)) ∙ type_there env few d g [] tt tt (omega arith) in
-      ap (λ (x : Got TypeTree). x.tree) (some_is (got_of front t []) (got_of front u []) same)
+      ap (λ (x : Got TypeTree). x.tree) (same_Some (got_of front t []) (got_of front u []) same)
 
   pub base_only : {front : List Lexeme} {t u : TypeTree} → IsBase env front t → IsBase env front u → t ≡ u
   base_only {front} {t} {u} h g =
       let d : ℕ = max (type_path t) (type_path u) in
       let same : Some (got_of front t []) ≡ Some (got_of front u []) = sym (base_there env few h d [] tt (omega arith)) ∙ base_there env few g d [] tt (omega arith) in
-      ap (λ (x : Got TypeTree). x.tree) (some_is (got_of front t []) (got_of front u []) same)
+      ap (λ (x : Got TypeTree). x.tree) (same_Some (got_of front t []) (got_of front u []) same)
 
   -- ---- expressions
 

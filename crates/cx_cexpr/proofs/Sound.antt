@@ -2,6 +2,7 @@
 use Rattle.std.proofs.Common.{◌≡◌, ℕ, zero, suc, ◌-◌, ◌<◌, Bool, true, false, cond, List, [], ◌∷◌, ◌++◌, length, Option, Some, None, refl, sym, ap, ◌∙◌, subst, append_assoc, arith, inl, inr}
 use Rattle.std.proofs.lemmas.Bool.{eqb-true, cases_Bool}
 use Rattle.std.specs.Prelude.{nat_eq}
+use Rattle.std.proofs.lemmas.Option.{same_Some}
 use Rattle.cx_ctree.specs.declared.expr.Binary.{Binary}
 use Rattle.cx_ctree.specs.Types.{TypeTree}
 use Rattle.cx_ctree.specs.Exprs as node
@@ -26,7 +27,7 @@ use Rattle.cx_cexpr.specs.Reading.{Got, wanted, made, spelled, enclosed_at, open
 use Rattle.cx_cexpr.specs.Reading as reading
 use Rattle.cx_cexpr.proofs.Shapes.{op_is, head_prefix, head_size, suffix_index, suffix_member, leaf_named, leaf_open, leaf_number}
 use Rattle.cx_cexpr.proofs.Spans.{first-append, past-append}
-use Rattle.cx_cexpr.proofs.Steps.{bind_some, some_is, at_first, at_rest, pick, wanted_some, named_some, Found, built}
+use Rattle.cx_cexpr.proofs.Steps.{bind_some, at_first, at_rest, pick, wanted_some, named_some, Found, built}
 use Rattle.cx_cexpr.proofs.TypeSound.{Enclosed, enclosed_sound}
 use Rattle.cx_cexpr.proofs.Begins.{cond_filled, binary_filled, cast_filled, unary_filled, postfix_filled}
 use Rattle.cx_cword.specs.Marks.{fits}
@@ -127,7 +128,7 @@ module _ {env : Known} (d : ℕ) where
   found_inside : (x z : Got ExprTree) (o : Lexeme) (ts : List Lexeme) → Is p.OpenParen o → FoundExpr (IsCond env) d ts x → wanted m.CloseParen x.rest (λ c after. Some (record { tree = x.tree; past = c.span.past; rest = after })) ≡ Some z → FoundExpr (IsPrimary env) d (o ∷ ts) z
   found_inside x z o ts is f e =
       let w = wanted_some m.CloseParen x.rest (λ c after. Some (record { tree = x.tree; past = c.span.past; rest = after })) z e in
-      subst (FoundExpr (IsPrimary env) d (o ∷ ts)) (some_is (record { tree = x.tree; past = w.0.span.past; rest = w.1 }) z w.4) (record {
+      subst (FoundExpr (IsPrimary env) d (o ∷ ts)) (same_Some (record { tree = x.tree; past = w.0.span.past; rest = w.1 }) z w.4) (record {
         front = o ∷ f.front ++ w.0 ∷ [];
         parts = ap (λ (v : List Lexeme). o ∷ v) (f.parts ∙ ap (λ (v : List Lexeme). f.front ++ v) w.2 ∙ sym (append_assoc f.front (w.0 ∷ []) w.1));
         spelled_so = inside o w.0 is f.spelled_so (fits_is m.CloseParen w.0.kind w.3);
@@ -160,16 +161,16 @@ module _ (env : Known) where
   suffix_step n d first whole sound again begins x o ts (Some (s.Member arrow)) g f is kind e =
       let c = bind_some (reading.member_at d first arrow x ts) (suffix_at env n d first) g e in
       again c.0 g (found_member d first whole begins arrow x c.0 o ts f is kind c.1) c.2
-  suffix_step n d first whole sound again begins x o ts None g f is kind e = subst (FoundExpr (IsPostfix env) d whole) (some_is x g e) f
+  suffix_step n d first whole sound again begins x o ts None g f is kind e = subst (FoundExpr (IsPostfix env) d whole) (same_Some x g e) f
 
   more_step : (n d first level : ℕ) (whole : List Lexeme) → ((ts : List Lexeme) (g : Got ExprTree) → binary_at env n (d - 1) level ts ≡ Some g → FoundExpr (IsBinary env level) (d - 1) ts g)
       → ((x g : Got ExprTree) → FoundExpr (IsBinary env (suc level)) d whole x → more_at env n d (suc level) first x ≡ Some g → FoundExpr (IsBinary env (suc level)) d whole g)
       → first_of whole ≡ first
       → (x : Got ExprTree) (o : Lexeme) (ts : List Lexeme) (op : Option (ℕ × Binary)) (g : Got ExprTree) → FoundExpr (IsBinary env (suc level)) d whole x → x.rest ≡ o ∷ ts → op_at o.kind ≡ op
       → more_by (binary_at env n (d - 1) level) (more_at env n d (suc level) first) d (suc level) first x ts op ≡ Some g → FoundExpr (IsBinary env (suc level)) d whole g
-  more_step n d first level whole sound again begins x o ts None g f is op e = subst (FoundExpr (IsBinary env (suc level)) d whole) (some_is x g e) f
+  more_step n d first level whole sound again begins x o ts None g f is op e = subst (FoundExpr (IsBinary env (suc level)) d whole) (same_Some x g e) f
   more_step n d first level whole sound again begins x o ts (Some v) g f is op e = elim (cases_Bool (nat_eq v.0 (suc level))) [
-    | inr other ↦ subst (FoundExpr (IsBinary env (suc level)) d whole) (some_is x g (rw other at e)) f
+    | inr other ↦ subst (FoundExpr (IsBinary env (suc level)) d whole) (same_Some x g (rw other at e)) f
     | inl same ↦
         let b = bind_some (binary_at env n (d - 1) level ts) (λ y. joined_at d first v.1 x y >>= more_at env n d (suc level) first) g (rw same at e) in
         let c = bind_some (joined_at d first v.1 x b.0) (more_at env n d (suc level) first) g b.2 in
@@ -232,10 +233,10 @@ module _ (env : Known) where
     choice_sound zero d first whole x g begins f e = absurd cc
     choice_sound (suc n) d first whole x g begins f e =
         elim (at_rest x.rest (Some x) (λ o rest. cond (fits m.Question o.kind) (choice_by (cond_at env n (d - 1)) d first x rest) (Some x)) g e) [
-          | inl a ↦ subst (FoundExpr (IsCond env) d whole) (some_is x g a.1) (as_other d whole x (λ os x h. unconditional h) f)
+          | inl a ↦ subst (FoundExpr (IsCond env) d whole) (same_Some x g a.1) (as_other d whole x (λ os x h. unconditional h) f)
           | inr a ↦ elim (pick (fits m.Question a.0.kind) (choice_by (cond_at env n (d - 1)) d first x a.1) (Some x) g a.3) [
             | inl q ↦ choice_step n d first whole (λ ts g e. cond_sound n (d - 1) ts g e) begins x a.0 a.1 g f a.2 (fits_is m.Question a.0.kind q.0) q.1
-            | inr q ↦ subst (FoundExpr (IsCond env) d whole) (some_is x g q.1) (as_other d whole x (λ os x h. unconditional h) f)
+            | inr q ↦ subst (FoundExpr (IsCond env) d whole) (same_Some x g q.1) (as_other d whole x (λ os x h. unconditional h) f)
           ]
         ]
 
@@ -248,7 +249,7 @@ module _ (env : Known) where
 
     pub climb_sound : (n d level first : ℕ) (whole : List Lexeme) (x g : Got ExprTree) → first_of whole ≡ first → FoundExpr (IsBinary env 0) d whole x → climb_at env n d level first x ≡ Some g → FoundExpr (IsBinary env level) d whole g
     climb_sound zero d level first whole x g begins f e = absurd cc
-    climb_sound (suc n) d zero first whole x g begins f e = subst (FoundExpr (IsBinary env 0) d whole) (some_is x g e) f
+    climb_sound (suc n) d zero first whole x g begins f e = subst (FoundExpr (IsBinary env 0) d whole) (same_Some x g e) f
     climb_sound (suc n) d (suc level) first whole x g begins f e =
         let b = bind_some (climb_at env n d level first x) (more_at env n d (suc level) first) g e in
         let q = climb_sound n d level first whole x b.0 begins f b.1 in
@@ -258,7 +259,7 @@ module _ (env : Known) where
     more_sound zero d level first whole x g begins f e = absurd cc
     more_sound (suc n) d level first whole x g begins f e =
         elim (at_rest x.rest (Some x) (λ o ts. more_by (binary_at env n (d - 1) level) (more_at env n d (suc level) first) d (suc level) first x ts (op_at o.kind)) g e) [
-          | inl a ↦ subst (FoundExpr (IsBinary env (suc level)) d whole) (some_is x g a.1) f
+          | inl a ↦ subst (FoundExpr (IsBinary env (suc level)) d whole) (same_Some x g a.1) f
           | inr a ↦ more_step n d first level whole (λ ts g e. binary_sound n (d - 1) level ts g e) (λ x g f e. more_sound n d level first whole x g begins f e) begins x a.0 a.1 (op_at a.0.kind) g f a.2 refl a.3
         ]
 
@@ -290,7 +291,7 @@ module _ (env : Known) where
     suffix_sound zero d first whole x g begins f e = absurd cc
     suffix_sound (suc n) d first whole x g begins f e =
         elim (at_rest x.rest (Some x) (λ o ts. suffixed_by (cond_at env n (d - 1)) (suffix_at env n d first) d first x ts (suffix_of o.kind)) g e) [
-          | inl a ↦ subst (FoundExpr (IsPostfix env) d whole) (some_is x g a.1) f
+          | inl a ↦ subst (FoundExpr (IsPostfix env) d whole) (same_Some x g a.1) f
           | inr a ↦ suffix_step n d first whole (λ ts g e. cond_sound n (d - 1) ts g e) (λ x g f e. suffix_sound n d first whole x g begins f e) begins x a.0 a.1 (suffix_of a.0.kind) g f a.2 refl a.3
         ]
 

@@ -2,6 +2,7 @@
 use Rattle.std.proofs.Common.{◌≡◌, ℕ, ◌≤◌, Bool, true, false, cond, List, [], ◌∷◌, ◌++◌, Option, Some, None, refl, subst, arith, inl, inr, ◌⊎◌}
 use Rattle.std.proofs.lemmas.Bool.Decides.{nat_tests}
 use Rattle.std.specs.Prelude.{nat_le}
+use Rattle.std.proofs.lemmas.Option.{same_Some}
 use Rattle.cx_ctree.specs.Types.{TypeTree, void}
 use Rattle.cx_ctree.specs.Exprs as e
 use Rattle.cx_ctree.specs.Exprs.{ExprTree, ExprKindTree}
@@ -18,9 +19,6 @@ use Rattle.cx_cword.specs.Marks.{fits}
 pub bind_some : {A B : Type 0} (o : Option A) (f : A → Option B) (y : B) → (o >>= f) ≡ Some y → (x : A) × (o ≡ Some x) × (f x ≡ Some y)
 bind_some (Some x) f y e = (x, refl, e)
 bind_some None f y e = absurd cc
-
-pub some_is : {A : Type 0} (x y : A) → Some x ≡ Some y → x ≡ y
-some_is x y e = cc
 
 pub at_first : {A : Type 0} (os : List Lexeme) (go : Lexeme → List Lexeme → Option A) (g : A) → at_lexeme os None go ≡ Some g → (o : Lexeme) × (rest : List Lexeme) × (os ≡ o ∷ rest) × (go o rest ≡ Some g)
 at_first [] go g e = absurd cc
@@ -59,11 +57,11 @@ named_some os go g e =
 
 pub made_some : (d : ℕ) (x : ExprTree) (past : ℕ) (rest : List Lexeme) (g : Got ExprTree) → made d x past rest ≡ Some g → (expr_path x ≤ d) × (◌≡◌ {A = Got ExprTree} (record { tree = x; past = past; rest = rest }) g)
 unfolding made
-made_some d x past rest g e = let b = test_some (nat_le (expr_path x) d) (Some (record { tree = x; past = past; rest = rest })) g e in (grind (arith, nat_tests, b.0), some_is _ g b.1)
+made_some d x past rest g e = let b = test_some (nat_le (expr_path x) d) (Some (record { tree = x; past = past; rest = rest })) g e in (grind (arith, nat_tests, b.0), same_Some _ g b.1)
 
 pub low_type_some : (d : ℕ) (x g : Got TypeTree) → low_type d x ≡ Some g → (type_path x.tree ≤ d) × (x ≡ g)
 unfolding low_type
-low_type_some d x g e = let b = test_some (nat_le (type_path x.tree) d) (Some x) g e in (grind (arith, nat_tests, b.0), some_is _ g b.1)
+low_type_some d x g e = let b = test_some (nat_le (type_path x.tree) d) (Some x) g e in (grind (arith, nat_tests, b.0), same_Some _ g b.1)
 
 -- the lexemes begin with a spelling of the tree, which is not too high
 pub record Found {A : Type 0} (high : A → ℕ) (Spells : List Lexeme → A → Type 0) (d : ℕ) (whole : List Lexeme) (g : Got A) : Type 0 where

@@ -4,6 +4,7 @@ use Rattle.std.proofs.lemmas.Bool.Decides.{nat_tests}
 use Rattle.std.proofs.lemmas.Option.{slice_get_within}
 use Rattle.std.specs.Prelude.{option_map, slice_get, nat_le, nat_lt, ◌&&◌}
 use Rattle.cx_base.specs.declared.number.CInt.{CInt}
+use Rattle.cx_base.proofs.General.{true_both}
 use Rattle.cx_ctree.specs.Decls.{TagTree}
 use Rattle.cx_ctree.specs.Types.{TypeTree, void, int, pointer, tag}
 use Rattle.cx_ctree.specs.Path.{type_path}
@@ -62,9 +63,6 @@ pub record GoesOn (rest : List Lexeme) (r : Option (Got TypeTree)) : Type 0 wher
   pub is : r ≡ Some g
   pub less : length g.rest ≤ length rest
 
-and_true : (a b : Bool) → a ≡ true → b ≡ true → (a && b) ≡ true
-and_true a b e f = ap (λ (x : Bool). x && b) e ∙ f
-
 kind_self : (union : Bool) → same_kind union (Some union) ≡ true
 kind_self true = refl
 kind_self false = refl
@@ -78,7 +76,7 @@ module _ (env : Known) (few : Few env) where
   kind_there at union h =
       let within = tag_within env.tags at union (slice_get env.tags at) refl h in
       let low : nat_lt at 4294967296 ≡ true = grind (arith, nat_tests, within, few) in
-      and_true (same_kind union (option_map (λ t. t.union_) (slice_get env.tags at))) (nat_lt at 4294967296) (ap (same_kind union) h ∙ kind_self union) low
+      true_both (same_kind union (option_map (λ t. t.union_) (slice_get env.tags at))) (nat_lt at 4294967296) (ap (same_kind union) h ∙ kind_self union) low
 
   -- what the dispatch gives for a name behind a word
   named_goes : {A : Type 0} (o : Lexeme) (n : ℕ) (rest : List Lexeme) (go : Lexeme → ℕ → List Lexeme → Option A) → IsName n o → reading.named (o ∷ rest) go ≡ go o n rest

@@ -2,6 +2,7 @@
 use Rattle.std.proofs.Common.{◌≡◌, ℕ, ◌<◌, ◌≤◌, Bool, true, false, cond, List, [], ◌∷◌, ◌++◌, length, Option, Some, None, refl, sym, ap, ◌∙◌, subst, append_assoc, append-nil, arith}
 use Rattle.std.proofs.lemmas.Bool.Decides.{nat_tests}
 use Rattle.std.specs.Prelude.{option_map, slice_get, nat_le, nat_lt, ◌&&◌}
+use Rattle.std.proofs.lemmas.Option.{same_Some}
 use Rattle.cx_ctree.specs.Types.{TypeTree, int, pointer, tag}
 use Rattle.cx_ctree.specs.Path.{type_path}
 use Rattle.cx_cword.specs.declared.word.Keyword.TheVariants as k
@@ -23,7 +24,7 @@ use Rattle.cx_cexpr.specs.Reading as reading
 use Rattle.cx_cexpr.proofs.IntWords.{first_listed}
 use Rattle.cx_cexpr.proofs.Shapes.{skipped_is, tail_star, tail_skipped, base_word_is, base_void, base_enum, base_tag, base_named}
 use Rattle.cx_cexpr.proofs.Spans.{past-append, past_from, past_from-cons}
-use Rattle.cx_cexpr.proofs.Steps.{bind_some, some_is, at_first, test_some, wanted_some, named_some, low_type_some, Found}
+use Rattle.cx_cexpr.proofs.Steps.{bind_some, at_first, test_some, wanted_some, named_some, low_type_some, Found}
 use Rattle.cx_cexpr.proofs.Counting.{counted_by, words_sound, int_of_words}
 use Rattle.cx_cword.specs.Marks.{fits}
 use Rattle.cx_cword.proofs.Marks.{fits_is}
@@ -92,7 +93,7 @@ module _ (env : Known) where
   tag_by_some union o rest None g e = absurd cc
   tag_by_some union o rest (Some at) g e =
       let b = test_some (kind_fits env union at) (Some (record { tree = tag at; past = o.span.past; rest = rest })) g e in
-      (at, refl, kind_same union (option_map (λ t. t.union_) (slice_get env.tags at)) (both (same_kind union (option_map (λ t. t.union_) (slice_get env.tags at))) (nat_lt at 4294967296) b.0), some_is _ g b.1)
+      (at, refl, kind_same union (option_map (λ t. t.union_) (slice_get env.tags at)) (both (same_kind union (option_map (λ t. t.union_) (slice_get env.tags at))) (nat_lt at 4294967296) b.0), same_Some _ g b.1)
 
   tag_spelled : (o : Lexeme) (rest : List Lexeme) (union : Bool) (g : Got TypeTree) → base_of o.kind ≡ base.Tag union → tag_at env union rest ≡ Some g → Spelled env (o ∷ rest) g
   tag_spelled o rest union g is e =
@@ -105,15 +106,15 @@ module _ (env : Known) where
       let go : Lexeme → ℕ → List Lexeme → Option (Got TypeTree) = λ o n rest. cond (names_enum env n) (Some (record { tree = int Rattle.cx_ctree.specs.Conversions.signed_int; past = o.span.past; rest = rest })) None in
       let h = named_some rest go g e in
       let t = test_some (names_enum env h.1) (Some (record { tree = int Rattle.cx_ctree.specs.Conversions.signed_int; past = h.0.span.past; rest = h.2 })) g h.5 in
-      subst (Spelled env (o ∷ rest)) (some_is _ g t.1) (record { front = o ∷ h.0 ∷ []; parts = ap (λ (r : List Lexeme). o ∷ r) h.3; words = enum_name o h.0 h.1 (base_enum o.kind is) h.4 t.0; ends = refl })
+      subst (Spelled env (o ∷ rest)) (same_Some _ g t.1) (record { front = o ∷ h.0 ∷ []; parts = ap (λ (r : List Lexeme). o ∷ r) h.3; words = enum_name o h.0 h.1 (base_enum o.kind is) h.4 t.0; ends = refl })
 
   typedef_some : (o : Lexeme) (rest : List Lexeme) (n : ℕ) (found : Option TypeTree) (g : Got TypeTree) → IsName n o → value_of n env.typedefs ≡ found → typedef_by o rest found ≡ Some g → Spelled env (o ∷ rest) g
   typedef_some o rest n None g called is e = absurd cc
-  typedef_some o rest n (Some t) g called is e = subst (Spelled env (o ∷ rest)) (some_is _ g e) (record { front = o ∷ []; parts = refl; words = type_name o n t called is; ends = refl })
+  typedef_some o rest n (Some t) g called is e = subst (Spelled env (o ∷ rest)) (same_Some _ g e) (record { front = o ∷ []; parts = refl; words = type_name o n t called is; ends = refl })
 
   base_spelled : (o : Lexeme) (rest : List Lexeme) (b : Base) (g : Got TypeTree) → base_of o.kind ≡ b → base_by env o rest b ≡ Some g → Spelled env (o ∷ rest) g
-  base_spelled o rest base.Void g is e = subst (Spelled env (o ∷ rest)) (some_is _ g e) (record { front = o ∷ []; parts = refl; words = void_word o (base_void o.kind is); ends = refl })
-  base_spelled o rest (base.Word u) g is e = subst (Spelled env (o ∷ rest)) (some_is _ g e) (word_spelled o rest u is)
+  base_spelled o rest base.Void g is e = subst (Spelled env (o ∷ rest)) (same_Some _ g e) (record { front = o ∷ []; parts = refl; words = void_word o (base_void o.kind is); ends = refl })
+  base_spelled o rest (base.Word u) g is e = subst (Spelled env (o ∷ rest)) (same_Some _ g e) (word_spelled o rest u is)
   base_spelled o rest (base.Tag union) g is e = tag_spelled o rest union g is e
   base_spelled o rest base.Enum g is e = enum_spelled o rest g is e
   base_spelled o rest (base.Name n) g is e = typedef_some o rest n (value_of n env.typedefs) g (base_named o.kind n is) refl e
@@ -189,7 +190,7 @@ module _ (env : Known) where
   type_sound d os g e =
       let b = bind_some (base_at env d (skip_at 0 os).rest) (λ x. Some (tail_at d x.tree x.past x.rest)) g e in
       let x : Got TypeTree = b.0 in
-      subst (FoundType env d os) (some_is (tail_at d x.tree x.past x.rest) g b.2) (tail_sound d x.rest os x.tree x.past (from_base d os (skip_at 0 os) x (skip_sound 0 os) (base_sound d (skip_at 0 os).rest x b.1)))
+      subst (FoundType env d os) (same_Some (tail_at d x.tree x.past x.rest) g b.2) (tail_sound d x.rest os x.tree x.past (from_base d os (skip_at 0 os) x (skip_sound 0 os) (base_sound d (skip_at 0 os).rest x b.1)))
 
   -- a type in parentheses
   pub record Enclosed (d : ℕ) (whole : List Lexeme) (g : Got TypeTree) : Type 0 where
@@ -207,7 +208,7 @@ module _ (env : Known) where
   shut x c after = Some (record { tree = x.tree; past = c.span.past; rest = after })
 
   closed : (d : ℕ) (os ts after : List Lexeme) (o c : Lexeme) (x g : Got TypeTree) → os ≡ o ∷ ts → fits m.OpenParen o.kind ≡ true → FoundType env d ts x → x.rest ≡ c ∷ after → fits m.CloseParen c.kind ≡ true → shut x c after ≡ Some g → Enclosed d os g
-  closed d os ts after o c x g is opens f then closes e = subst (Enclosed d os) (some_is (record { tree = x.tree; past = c.span.past; rest = after }) g e) (record {
+  closed d os ts after o c x g is opens f then closes e = subst (Enclosed d os) (same_Some (record { tree = x.tree; past = c.span.past; rest = after }) g e) (record {
     front = f.front;
     open_mark = o;
     close_mark = c;

@@ -1,5 +1,6 @@
 -- The lexemes of a declaration are read as one, and as no other.
 use Rattle.std.proofs.Common.{◌≡◌, ℕ, ◌+◌, ◌*◌, ◌≤◌, List, [], ◌∷◌, ◌++◌, length, Some, None, refl, sym, ap, ◌∙◌, subst, arith, length-append, append-nil}
+use Rattle.std.proofs.lemmas.Option.{none-some}
 use Rattle.cx_ctree.specs.Decls.{DeclTree}
 use Rattle.cx_cword.specs.declared.lexeme.Lexeme.{Lexeme}
 use Rattle.cx_cword.specs.Reading.{◌>>=◌}
@@ -15,9 +16,6 @@ use Rattle.cx_cread.specs.Reading.{IsNoDeclaration}
 
 abbrev pub made : {A : Type 0} → A → Known → List Lexeme → After A
 made t k rest = record { tree = t; known = k; rest = rest }
-
-none_some : {A : Type 0} (x : A) → None ≡ Some x → ⊥
-none_some x e = absurd cc
 
 ended : {A : Type 0} (rest : List Lexeme) (t : A) (k : Known) (r : After A) → at_end (made t k rest) ≡ Some r → (rest ≡ []) × (made t k [] ≡ r)
 ended {A} [] t k r e = (refl, cc)
@@ -36,7 +34,7 @@ pub declaration_unread : (turns : ℕ) (earlier : List DeclTree) (env : Known) (
 unfolding whole_at
 declaration_unread turns earlier env os fit enough e ds later d =
     let some : (declaration_at turns earlier env os >>= at_end) ≡ Some (made ds later []) = ap (λ o. o >>= at_end) (declaration_there d turns fit (omega (arith, enough))) in
-    none_some (made ds later []) (sym e ∙ some)
+    none-some (made ds later []) (sym e ∙ some)
 
 -- each lexeme declares one tag at most
 pub declaration_grows : {earlier : List DeclTree} {env known : Known} {a : List Lexeme} {ds : List DeclTree} → IsDeclaration earlier env a ds known → Grows env known (length a)

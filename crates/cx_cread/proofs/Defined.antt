@@ -2,7 +2,9 @@
 use Rattle.std.proofs.Common.{◌≡◌, ℕ, ◌+◌, ◌*◌, ◌≤◌, true, false, List, [], ◌∷◌, ◌++◌, map, length, Option, Some, None, refl, sym, ap, ◌∙◌, subst, arith, append_assoc, length-append, append-nil}
 use Rattle.std.specs.Prelude.{not}
 use Rattle.std.specs.List.{list_any}
+use Rattle.std.proofs.lemmas.Option.{none-some, same_Some}
 use Rattle.cx_base.specs.declared.span.Span.{Span}
+use Rattle.cx_base.proofs.General.{not_true}
 use Rattle.cx_ctree.specs.Types.{TypeTree}
 use Rattle.cx_ctree.specs.Stmts.{StmtTree, block, StmtTrees}
 use Rattle.cx_ctree.specs.Path.{stmt_path}
@@ -13,11 +15,10 @@ use Rattle.cx_cword.specs.declared.lexeme.LexemeKind.{LexemeKind}
 use Rattle.cx_cword.specs.Reading.{Is, ◌>>=◌, past_of}
 use Rattle.cx_cname.specs.Known.{Known, function_type, MayBe}
 use Rattle.cx_cname.specs.Meanings.{may_be}
-use Rattle.cx_cexpr.proofs.Steps.{bind_some, some_is}
+use Rattle.cx_cexpr.proofs.Steps.{bind_some}
 use Rattle.cx_cdecl.specs.Declarations.{AreSpecs, IsFunction, function_of}
 use Rattle.cx_cdecl.specs.Reading.{After, Specs, Declared, if_true, specs_at, declarator_at}
 use Rattle.cx_cdecl.proofs.Steps.{if_some}
-use Rattle.cx_cdecl.proofs.TagSound.{is_not}
 use Rattle.cx_cdecl.proofs.MembersSound.{specs_sound}
 use Rattle.cx_cdecl.proofs.DeclarationSound.{IsDeclarator, of_object, of_function, declarator_sound, may_be_is}
 use Rattle.cx_cdecl.proofs.Follows.{is_keyword, no_keyword, ends_type, if_goes, bind_goes}
@@ -59,7 +60,7 @@ record FoundBody (earlier : List DeclTree) (env : Known) (name_span : Span) (f :
 
 ended : (name_span : Span) (f : SignatureTree) (rest : List Lexeme) (tree : StmtTree) (known : Known) (past : ℕ) (g : After FunctionTree) → with_body name_span f (record { tree = tree; known = known; past = past; rest = rest }) ≡ Some g
     → (rest ≡ []) × (defined (function_of_body name_span f tree) known ≡ g)
-ended name_span f [] tree known past g e = (refl, some_is (defined (function_of_body name_span f tree) known) g e)
+ended name_span f [] tree known past g e = (refl, same_Some (defined (function_of_body name_span f tree) known) g e)
 ended name_span f (o ∷ rest) tree known past g e = absurd cc
 
 body_found : (earlier : List DeclTree) (env : Known) (name_span : Span) (f : SignatureTree) (os : List Lexeme) (x : Got StmtTree) (g : After FunctionTree) → FoundBlock earlier env 400 os x → MayBe env earlier f.name (function_type f) → list_any (is_body_of f.name) earlier ≡ false
@@ -89,7 +90,7 @@ body_sound turns earlier env name_span f os g e =
     let once = if_some (not (list_any (is_body_of f.name) earlier)) body g may.1 in
     let i = bind_some (block_at env turns 400 os) (with_body name_span f) g once.1 in
     let x = ended name_span f i.0.rest i.0.tree i.0.known i.0.past g i.2 in
-    body_found earlier env name_span f os i.0 g (block_sound earlier env turns 400 os i.0 i.1) (may_be_is env earlier f.name (function_type f) may.0) (is_not (list_any (is_body_of f.name) earlier) once.0) x.0 x.1
+    body_found earlier env name_span f os i.0 g (block_sound earlier env turns 400 os i.0 i.1) (may_be_is env earlier f.name (function_type f) may.0) (not_true (list_any (is_body_of f.name) earlier) once.0) x.0 x.1
 
 definition_parts : (os a mid c last d : List Lexeme) (m e : Lexeme) → os ≡ a ++ mid → mid ≡ c ++ last → last ≡ m ∷ d ++ e ∷ [] → os ≡ a ++ c ++ m ∷ d ++ e ∷ []
 definition_parts os a mid c last d m e e1 e2 e3 =
@@ -113,7 +114,7 @@ definition_sound turns earlier env os g e =
     let h = if_some (not i.0.tree.said.typedef_) (declarator_at turns i.0.known i.0.tree.ctype i.0.rest >>= declarator_after turns earlier) g i.2 in
     let j = bind_some (declarator_at turns i.0.known i.0.tree.ctype i.0.rest) (declarator_after turns earlier) g h.1 in
     let c = declarator_sound turns earlier i.0.known i.0.tree.ctype i.0.rest j.0 j.1 in
-    by_kind turns earlier env os i.0 a.front c.front j.0.rest j.0.tree j.0.known g a.parts a.so (is_not i.0.tree.said.typedef_ h.0) c.parts c.so j.2
+    by_kind turns earlier env os i.0 a.front c.front j.0.rest j.0.tree j.0.known g a.parts a.so (not_true i.0.tree.said.typedef_ h.0) c.parts c.so j.2
 
 -- ---- a function with its body is read
 
@@ -155,11 +156,8 @@ definition_there {earlier} {env} (definition {a = a} {c = c} {d = d} {t = t} {s 
     ∙ bind_goes (declarator_at turns known t (c ++ braced)) (declarator_after turns earlier) (declared_of (proto f) o later braced) (function_there is turns braced plain fit2 (omega (arith, enough, whole, long)))
     ∙ body_there turns o.span f m e may once opens body closes low fit3 (omega (arith, enough, whole, long, more))
 
-none_some : {A : Type 0} (x : A) → None ≡ Some x → ⊥
-none_some x e = absurd cc
-
 pub definition_unread : (turns : ℕ) (earlier : List DeclTree) (env : Known) (os : List Lexeme) → Fits env os → 16 * length os + 64 ≤ turns → definition_at turns earlier env os ≡ None → IsNoDefinition earlier env os
-definition_unread turns earlier env os fit enough e f later d = none_some (defined f later) (sym e ∙ definition_there d turns fit enough)
+definition_unread turns earlier env os fit enough e f later d = none-some (defined f later) (sym e ∙ definition_there d turns fit enough)
 
 -- each lexeme declares one tag at most
 pub definition_grows : {earlier : List DeclTree} {env known : Known} {os : List Lexeme} {f : FunctionTree} → IsDefinition earlier env os f known → Grows env known (length os)

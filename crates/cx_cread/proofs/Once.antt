@@ -1,12 +1,12 @@
 -- An item is read in one way.
 use Rattle.std.proofs.Common.{◌≡◌, ℕ, ◌+◌, ◌*◌, ◌^◌, ◌≤◌, List, [], ◌∷◌, ◌++◌, length, Option, Some, None, refl, sym, ap, ◌∙◌, arith}
+use Rattle.std.proofs.lemmas.Option.{same_Some}
 use Rattle.cx_ctree.specs.Decls.{DeclTree, function, FunctionTree}
 use Rattle.cx_cword.specs.declared.word.Punctuator.TheVariants as p
 use Rattle.cx_cword.specs.declared.lexeme.Lexeme.{Lexeme}
 use Rattle.cx_cword.specs.declared.lexeme.LexemeKind.{LexemeKind}
 use Rattle.cx_cword.specs.declared.lexeme.LexemeKind.TheVariants as l
 use Rattle.cx_cname.specs.Known.{Known}
-use Rattle.cx_cexpr.proofs.Steps.{some_is}
 use Rattle.cx_cdecl.specs.Declarations.{IsDeclaration, declares_types, declares}
 use Rattle.cx_cdecl.specs.Reading.{After}
 use Rattle.cx_cdecl.proofs.Grows.{Fits, Grows}
@@ -58,7 +58,7 @@ holds_fits env os h = record { few = let e = h.few in omega (arith, e) }
 definition_only : {earlier : List DeclTree} {env : Known} {os : List Lexeme} {f g : FunctionTree} {known later : Known} → Fits env os → IsDefinition earlier env os f known → IsDefinition earlier env os g later → (f ≡ g) × (known ≡ later)
 definition_only {os = os} fit a b =
     let turns : ℕ = 16 * length os + 64 in
-    let same = some_is _ _ (sym (definition_there a turns fit (omega arith)) ∙ definition_there b turns fit (omega arith)) in
+    let same = same_Some _ _ (sym (definition_there a turns fit (omega arith)) ∙ definition_there b turns fit (omega arith)) in
     (ap (λ (x : After FunctionTree). x.tree) same, ap (λ (x : After FunctionTree). x.known) same)
 
 pub item_only : {earlier : List DeclTree} {env : Known} {os : List Lexeme} {ds es : List DeclTree} {known later : Known} → Holds env os → IsItem earlier env os ds known → IsItem earlier env os es later → (ds ≡ es) × (known ≡ later)

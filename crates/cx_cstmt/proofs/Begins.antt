@@ -1,6 +1,7 @@
 -- What an effect, a declaration of a block, a label and a statement begin with.
 use Rattle.std.proofs.Common.{◌≡◌, ℕ, ◌≤◌, Bool, true, false, ◌&&◌, ◌||◌, List, [], ◌∷◌, ◌++◌, length, Option, Some, None, refl, sym, ap, ◌∙◌, subst, append_assoc, arith, inl, inr, ◌⊎◌}
 use Rattle.std.specs.Prelude.{not, is_some}
+use Rattle.cx_base.proofs.General.{and_false, or_true, true_both}
 use Rattle.cx_ctree.specs.declared.expr.Binary.{Binary}
 use Rattle.cx_ctree.specs.Types.{TypeTree}
 use Rattle.cx_ctree.specs.Exprs.{ExprTree, CallTree, RhsTree, EffectTree}
@@ -34,18 +35,6 @@ use Rattle.cx_cstmt.specs.Statements.{IsVariable, variable, initialised, AreVari
 use Rattle.cx_cstmt.proofs.Steps.{lacks}
 use Rattle.cx_cstmt.proofs.Goes.{three_parts}
 use Rattle.cx_cword.specs.Marks.{fits}
-
-and_false : (a : Bool) → (a && false) ≡ false
-and_false true = refl
-and_false false = refl
-
-or_true : (a : Bool) → (a || true) ≡ true
-or_true true = refl
-or_true false = refl
-
-both : (a b : Bool) → a ≡ true → b ≡ true → (a && b) ≡ true
-both true b e f = f
-both false b e f = absurd cc
 
 -- ---- effects
 
@@ -219,7 +208,7 @@ pub record Declaring (env : Known) (os : List Lexeme) : Type 0 where
   pub local : begins_local env os ≡ true
 
 declaring : (env : Known) (o : Lexeme) (os : List Lexeme) → Declares o.kind → (is_storage o.kind || begins_by env o.kind) ≡ true → calls (o ∷ os) ≡ false → Declaring env (o ∷ os)
-declaring env o os q e off = record { semicolon = ap not q.semicolon; brace = ap not q.brace; other = ap not q.other; local = both (is_storage o.kind || begins_by env o.kind) (not (calls (o ∷ os))) e (ap not off) }
+declaring env o os q e off = record { semicolon = ap not q.semicolon; brace = ap not q.brace; other = ap not q.other; local = true_both (is_storage o.kind || begins_by env o.kind) (not (calls (o ∷ os))) e (ap not off) }
 
 type_declaring : (env : Known) (o : Lexeme) (os : List Lexeme) → begins_by env o.kind ≡ true → calls (o ∷ os) ≡ false → Declaring env (o ∷ os)
 type_declaring env o os e off = declaring env o os (type_declares env o.kind e) (ap (λ (b : Bool). is_storage o.kind || b) e ∙ or_true (is_storage o.kind)) off

@@ -2,12 +2,12 @@
 use Rattle.std.proofs.Common.{◌≡◌, ℕ, ◌≤◌, Bool, true, cond, List, [], ◌∷◌, ◌++◌, Option, Some, None, refl, sym, ap, ◌∙◌, append_assoc, arith}
 use Rattle.std.proofs.lemmas.Bool.Decides.{nat_tests}
 use Rattle.std.specs.Prelude.{nat_le}
+use Rattle.cx_base.proofs.General.{not_true}
 use Rattle.cx_ctree.specs.Stmts.{StmtTree, StmtKindTree}
 use Rattle.cx_ctree.specs.Path.{stmt_path}
 use Rattle.cx_cword.specs.declared.lexeme.Lexeme.{Lexeme}
 use Rattle.cx_cword.specs.Reading.{first_of, past_of}
 use Rattle.cx_cname.specs.Known.{Known}
-use Rattle.cx_cdecl.proofs.Follows.{not_true}
 use Rattle.cx_cword.specs.declared.mark.Mark.{Mark}
 use Rattle.cx_cstmt.specs.Statements as grammar
 use Rattle.cx_cstmt.specs.Reading.{Got, made, spelled, next}

@@ -1,6 +1,7 @@
 -- What is read as an expression in parentheses, as labels, or between the parentheses of `for` is spelled so.
 use Rattle.std.proofs.Common.{◌≡◌, ℕ, zero, suc, ◌-◌, true, false, cond, List, [], ◌∷◌, ◌++◌, Option, Some, None, refl, sym, ap, ◌∙◌, subst, append_assoc, inl, inr}
 use Rattle.std.specs.Prelude.{is_some}
+use Rattle.std.proofs.lemmas.Option.{same_Some}
 use Rattle.cx_base.specs.declared.span.Span.{Span}
 use Rattle.cx_ctree.specs.Exprs.{ExprTree, EffectTree}
 use Rattle.cx_ctree.specs.Stmts.{StmtTree, stmt, effect, StmtTrees, no_stmt, also_stmt}
@@ -15,7 +16,7 @@ use Rattle.cx_cexpr.specs.Expressions.{IsCond}
 use Rattle.cx_cexpr.specs.Reading.{cond_at}
 use Rattle.cx_cexpr.specs.Reading as expr
 use Rattle.cx_cexpr.proofs.Spans.{spanned}
-use Rattle.cx_cexpr.proofs.Steps.{bind_some, some_is, at_first, pick, test_some}
+use Rattle.cx_cexpr.proofs.Steps.{bind_some, at_first, pick, test_some}
 use Rattle.cx_cexpr.proofs.Sound.{cond_sound}
 use Rattle.cx_ceffect.specs.Effects.{IsEffect}
 use Rattle.cx_ceffect.specs.Reading.{effect_at, effects_at}
@@ -50,7 +51,7 @@ enclosed_sound env n d os g e =
     let b = bind_some (cond_at env n d a.0) (λ x. next m.CloseParen x.rest None (shut x)) g a.2 in
     let c = next_some m.CloseParen b.0.rest (shut b.0) g b.2 in
     let f = cond_sound env n d a.0 b.0 b.1 in
-    subst (Enclosed env os) (some_is (record { tree = b.0.tree; past = c.1.at.span.past; rest = c.0 }) g c.2) (record {
+    subst (Enclosed env os) (same_Some (record { tree = b.0.tree; past = c.1.at.span.past; rest = c.0 }) g c.2) (record {
       front = f.front;
       open_mark = a.1.at;
       close_mark = c.1.at;
@@ -74,7 +75,7 @@ module _ (env : Known) where
       let c = next_some m.Colon x.rest (λ c after. cond (is_some (constant_in env x.tree)) (Some (record { tree = Some x.tree; rest = after })) None) g e in
       let b = test_some (is_some (constant_in env x.tree)) (Some (record { tree = Some x.tree; rest = c.0 })) g c.2 in
       let f = cond_sound env n d ts x read in
-      subst (FoundAfter (IsLabel env) (o ∷ ts)) (some_is (record { tree = Some x.tree; rest = c.0 }) g b.1) (record {
+      subst (FoundAfter (IsLabel env) (o ∷ ts)) (same_Some (record { tree = Some x.tree; rest = c.0 }) g b.1) (record {
         front = o ∷ f.front ++ c.1.at ∷ [];
         parts = ap (λ (v : List Lexeme). o ∷ v) (two_parts ts f.front x.rest c.0 [] c.0 c.1.at f.parts c.1.parts refl);
         so = case_label o c.1.at is f.spelled_so b.0 c.1.is;
@@ -86,7 +87,7 @@ module _ (env : Known) where
       case_ends n d o ts b.0 g (label_case o.kind is) b.1 b.2
   label_step n d o ts label.Default g is e =
       let c = next_some m.Colon ts (λ c after. Some (record { tree = None; rest = after })) g e in
-      subst (FoundAfter (IsLabel env) (o ∷ ts)) (some_is (record { tree = None; rest = c.0 }) g c.2) (record {
+      subst (FoundAfter (IsLabel env) (o ∷ ts)) (same_Some (record { tree = None; rest = c.0 }) g c.2) (record {
         front = o ∷ c.1.at ∷ [];
         parts = ap (λ (v : List Lexeme). o ∷ v) c.1.parts;
         so = default_label o c.1.at (label_default o.kind is) c.1.is;
@@ -133,7 +134,7 @@ module _ (env : Known) where
               ends = r.ends;
               begins = starts;
             }
-        | inr q ↦ subst (FoundLabels all os) (some_is (record { tree = all ++ x.tree ∷ []; rest = x.rest }) g q.1) (record {
+        | inr q ↦ subst (FoundLabels all os) (same_Some (record { tree = all ++ x.tree ∷ []; rest = x.rest }) g q.1) (record {
           front = f.front;
           ls = x.tree ∷ [];
           parts = f.parts;
@@ -176,7 +177,7 @@ module _ (env : Known) where
       let s = c.0 in
       let f = one_effect d o ts b.0 s (effect_sound env n (d - 1) os b.0 b.1) c.1 in
       elim (next_cases m.Comma s.rest (Some (listed (push all s.tree) env s.rest)) (λ c rest. init_effects_at env n d (push all s.tree) rest) g c.2) [
-        | inl a ↦ subst (FoundInit all os) (some_is (listed (push all s.tree) env s.rest) g a.1) (record {
+        | inl a ↦ subst (FoundInit all os) (same_Some (listed (push all s.tree) env s.rest) g a.1) (record {
           front = f.0;
           ss = also_stmt s.tree no_stmt;
           parts = f.1;
@@ -207,7 +208,7 @@ module _ (env : Known) where
   first_effects : (earlier : List DeclTree) (os : List Lexeme) (x g : Got StmtTrees) → FoundInit no_stmt os x → init_ends x ≡ Some g → FoundFirst earlier os g
   first_effects earlier os x g f e =
       let c = next_some m.Semicolon x.rest (λ c after. Some (listed x.tree x.known after)) g e in
-      subst (FoundFirst earlier os) (some_is (listed x.tree x.known c.0) g c.2) (record {
+      subst (FoundFirst earlier os) (same_Some (listed x.tree x.known c.0) g c.2) (record {
         front = f.front ++ c.1.at ∷ [];
         parts = two_parts os f.front x.rest c.0 [] c.0 c.1.at f.parts c.1.parts refl;
         so = subst (λ (v : StmtTrees). IsInit earlier env (f.front ++ c.1.at ∷ []) v x.known) f.tree (subst (IsInit earlier env (f.front ++ c.1.at ∷ []) f.ss) f.same (init_effects c.1.at f.so c.1.is));
@@ -220,7 +221,7 @@ module _ (env : Known) where
       | inl q ↦ first_local earlier os g (local_sound earlier env n d no_stmt os g q.1)
       | inr q ↦ let b = bind_some (init_effects_at env n d no_stmt os) init_ends g q.1 in first_effects earlier os b.0 g (init_effects_sound n d no_stmt os b.0 b.1) b.2
     ]
-    | inr a ↦ subst (FoundFirst earlier os) (some_is (listed no_stmt env a.0) g a.2) (record { front = a.1.at ∷ []; parts = a.1.parts; so = init_nothing a.1.at a.1.is })
+    | inr a ↦ subst (FoundFirst earlier os) (same_Some (listed no_stmt env a.0) g a.2) (record { front = a.1.at ∷ []; parts = a.1.parts; so = init_nothing a.1.at a.1.is })
   ]
 
   -- a condition or steps, with the mark after them
@@ -240,8 +241,8 @@ module _ (env : Known) where
             let b = bind_some (cond_at env n d os) some g a.1 in
             let f = cond_sound env n d os b.0 b.1 in
             let c = next_some m.Semicolon b.0.rest (λ c after. Some (record { tree = Some b.0.tree; rest = after })) g b.2 in
-            subst (FoundPart (IsCondition env) m.Semicolon os) (some_is (record { tree = Some b.0.tree; rest = c.0 }) g c.2) (record { front = f.front; close = c.1.at; parts = f.parts ∙ ap (λ (v : List Lexeme). f.front ++ v) c.1.parts; so = some_condition f.spelled_so; is = c.1.is })
-        | inr a ↦ subst (FoundPart (IsCondition env) m.Semicolon os) (some_is (record { tree = None; rest = a.0 }) g a.2) (record { front = []; close = a.1.at; parts = a.1.parts; so = no_condition; is = a.1.is })
+            subst (FoundPart (IsCondition env) m.Semicolon os) (same_Some (record { tree = Some b.0.tree; rest = c.0 }) g c.2) (record { front = f.front; close = c.1.at; parts = f.parts ∙ ap (λ (v : List Lexeme). f.front ++ v) c.1.parts; so = some_condition f.spelled_so; is = c.1.is })
+        | inr a ↦ subst (FoundPart (IsCondition env) m.Semicolon os) (same_Some (record { tree = None; rest = a.0 }) g a.2) (record { front = []; close = a.1.at; parts = a.1.parts; so = no_condition; is = a.1.is })
       ]
 
   steps_sound : (n d : ℕ) (os : List Lexeme) (g : After (List EffectTree)) → steps_at env n d os ≡ Some g → FoundPart (AreSteps env) m.CloseParen os g
@@ -253,8 +254,8 @@ module _ (env : Known) where
             let b = bind_some (effects_at env n d [] os) some g a.1 in
             let f = effects_sound env n d os b.0 b.1 in
             let c = next_some m.CloseParen b.0.rest (λ c after. Some (record { tree = b.0.tree; rest = after })) g b.2 in
-            subst (FoundPart (AreSteps env) m.CloseParen os) (some_is (record { tree = b.0.tree; rest = c.0 }) g c.2) (record { front = f.front; close = c.1.at; parts = f.parts ∙ ap (λ (v : List Lexeme). f.front ++ v) c.1.parts; so = some_steps f.spelled_so; is = c.1.is })
-        | inr a ↦ subst (FoundPart (AreSteps env) m.CloseParen os) (some_is (record { tree = []; rest = a.0 }) g a.2) (record { front = []; close = a.1.at; parts = a.1.parts; so = no_step; is = a.1.is })
+            subst (FoundPart (AreSteps env) m.CloseParen os) (same_Some (record { tree = b.0.tree; rest = c.0 }) g c.2) (record { front = f.front; close = c.1.at; parts = f.parts ∙ ap (λ (v : List Lexeme). f.front ++ v) c.1.parts; so = some_steps f.spelled_so; is = c.1.is })
+        | inr a ↦ subst (FoundPart (AreSteps env) m.CloseParen os) (same_Some (record { tree = []; rest = a.0 }) g a.2) (record { front = []; close = a.1.at; parts = a.1.parts; so = no_step; is = a.1.is })
       ]
 
   -- what stands between the parentheses of `for`
@@ -287,7 +288,7 @@ header_sound env earlier n d os g e =
     let f = init_sound env earlier n d a.0 i b.1 in
     let u = test_sound i.known n d i.rest t c.1 in
     let v = steps_sound i.known n d t.rest s r.1 in
-    subst (FoundHeader env earlier os) (some_is (listed (record { init = i.tree; test = t.tree; steps = s.tree }) i.known s.rest) g r.2) (record {
+    subst (FoundHeader env earlier os) (same_Some (listed (record { init = i.tree; test = t.tree; steps = s.tree }) i.known s.rest) g r.2) (record {
       a = f.front;
       c = u.front;
       d = v.front;

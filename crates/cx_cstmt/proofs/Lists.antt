@@ -3,6 +3,7 @@ use Rattle.std.proofs.Common.{◌≡◌, ℕ, ◌<◌, ◌≤◌, List, [], ◌�
 use Rattle.std.proofs.lemmas.Bool.Decides.{nat_tests}
 use Rattle.std.specs.Prelude.{map, max, nat_le}
 use Rattle.cx_base.specs.declared.span.Span.{Span}
+use Rattle.cx_base.proofs.General.{map_push}
 use Rattle.cx_ctree.specs.Types.{TypeTree}
 use Rattle.cx_ctree.specs.Exprs.{ExprTree, RhsTree}
 use Rattle.cx_ctree.specs.Stmts.{StmtTree, stmt, declare, StmtTrees, no_stmt, also_stmt, GroupTrees, no_group, also_group, stmt_tree, stmt_trees, group_tree, group_trees}
@@ -12,10 +13,6 @@ use Rattle.cx_ctree.specs.declared.stmt.Group.{Group}
 use Rattle.cx_cword.specs.declared.lexeme.Lexeme.{Lexeme}
 use Rattle.cx_cname.specs.Known.{Known}
 use Rattle.cx_cstmt.specs.Reading.{made, push, push_group, test_path}
-
-pub map_push : {A B : Type 0} (f : A → B) (xs : List A) (x : A) → map f (xs ++ x ∷ []) ≡ map f xs ++ f x ∷ []
-map_push f [] x = refl
-map_push f (y ∷ xs) x = ap (λ (v : List _). f y ∷ v) (map_push f xs x)
 
 pub greatest_push : {A : Type 0} (f : A → ℕ) (xs : List A) (x : A) → greatest f (xs ++ x ∷ []) ≡ max (greatest f xs) (f x)
 greatest_push f [] x = omega arith

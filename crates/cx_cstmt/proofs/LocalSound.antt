@@ -1,6 +1,7 @@
 -- What is read as a declaration of a block is spelled so.
 use Rattle.std.proofs.Common.{◌≡◌, ℕ, zero, suc, ◌-◌, Bool, true, false, cond, not, List, [], ◌∷◌, ◌++◌, Option, Some, None, refl, sym, ◌∙◌, subst, inl, inr}
 use Rattle.std.specs.Prelude.{◌&&◌}
+use Rattle.std.proofs.lemmas.Option.{same_Some}
 use Rattle.cx_ctree.specs.Types.{TypeTree}
 use Rattle.cx_ctree.specs.Exprs.{RhsTree}
 use Rattle.cx_ctree.specs.Stmts.{StmtTree, stmt, declare, StmtTrees, no_stmt, also_stmt}
@@ -8,7 +9,7 @@ use Rattle.cx_ctree.specs.Decls.{DeclTree}
 use Rattle.cx_cword.specs.declared.lexeme.Lexeme.{Lexeme}
 use Rattle.cx_cword.specs.Reading.{◌>>=◌}
 use Rattle.cx_cname.specs.Known.{Known, names_type}
-use Rattle.cx_cexpr.proofs.Steps.{bind_some, some_is, pick}
+use Rattle.cx_cexpr.proofs.Steps.{bind_some, pick}
 use Rattle.cx_ceffect.specs.Reading.{rhs_at}
 use Rattle.cx_ceffect.proofs.Sound.{rhs_sound}
 use Rattle.cx_cdecl.specs.Declarations.{AreSpecs}
@@ -80,7 +81,7 @@ module _ (env : Known) where
       let b = bind_some (variable_at env n d t os) (λ s. next m.Comma s.rest (Some (listed (push all s.tree) env s.rest)) (λ o rest. variables_at env n d t (push all s.tree) rest)) g e in
       let f = variable_sound n d t os b.0 b.1 in
       elim (next_cases m.Comma b.0.rest (Some (listed (push all b.0.tree) env b.0.rest)) (λ o rest. variables_at env n d t (push all b.0.tree) rest) g b.2) [
-        | inl a ↦ subst (FoundVariables t all os) (some_is (listed (push all b.0.tree) env b.0.rest) g a.1) (record {
+        | inl a ↦ subst (FoundVariables t all os) (same_Some (listed (push all b.0.tree) env b.0.rest) g a.1) (record {
           front = f.front;
           ss = also_stmt b.0.tree no_stmt;
           parts = f.parts;
@@ -128,7 +129,7 @@ local_sound earlier env n d all os g e =
     let v = bind_some (variables_at s.known n d s.tree.ctype all s.rest) go g p.1 in
     let q = variables_sound s.known n d s.tree.ctype all s.rest v.0 v.1 in
     let c = next_some m.Semicolon v.0.rest (λ c rest. Some (listed v.0.tree v.0.known rest)) g v.2 in
-    subst (FoundLocal earlier env all os) (some_is (listed v.0.tree v.0.known c.0) g c.2) (record {
+    subst (FoundLocal earlier env all os) (same_Some (listed v.0.tree v.0.known c.0) g c.2) (record {
       front = f.front ++ q.front ++ c.1.at ∷ [];
       ss = q.ss;
       parts = two_parts os (f.front ++ q.front) v.0.rest c.0 [] c.0 c.1.at (both_parts os f.front s.rest q.front v.0.rest f.parts q.parts) c.1.parts refl;

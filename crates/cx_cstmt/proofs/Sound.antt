@@ -2,6 +2,7 @@
 use Rattle.std.proofs.Common.{◌≡◌, ℕ, zero, suc, ◌-◌, ◌<◌, ◌≤◌, Bool, true, false, cond, List, [], ◌∷◌, ◌++◌, length, Option, Some, None, refl, sym, ap, ◌∙◌, subst, append_assoc, arith, length-append, inl, inr}
 use Rattle.std.proofs.lemmas.Bool.{cases_Bool}
 use Rattle.std.specs.Prelude.{nat_eq}
+use Rattle.std.proofs.lemmas.Option.{same_Some}
 use Rattle.cx_base.specs.declared.span.Span.{Span}
 use Rattle.cx_ctree.specs.Exprs.{ExprTree}
 use Rattle.cx_ctree.specs.Stmts.{StmtTree, stmt, StmtKindTree, block, empty, effect, if_alone, if_else, while, do_while, for, switch, break, continue, return, StmtTrees, no_stmt, also_stmt, GroupTrees, no_group, also_group}
@@ -14,7 +15,7 @@ use Rattle.cx_cword.specs.Reading.{Is, IsWord, ◌>>=◌, at_lexeme, first_of, p
 use Rattle.cx_cname.specs.Known.{Known}
 use Rattle.cx_cexpr.specs.Reading as expr
 use Rattle.cx_cexpr.proofs.Spans.{first-append, past-append, spanned}
-use Rattle.cx_cexpr.proofs.Steps.{bind_some, some_is, at_first, pick}
+use Rattle.cx_cexpr.proofs.Steps.{bind_some, at_first, pick}
 use Rattle.cx_ceffect.specs.Reading.{rhs_at, effect_at}
 use Rattle.cx_ceffect.proofs.Sound.{effect_filled, rhs_sound, effect_sound}
 use Rattle.cx_cword.specs.declared.mark.Mark.TheVariants as m
@@ -314,7 +315,7 @@ module _ (earlier : List DeclTree) where
     | inl q ↦ local_before env all os x (local_sound earlier env n d all os x q.1)
     | inr q ↦
         let b = bind_some (inner env os) (λ y. Some (listed (push all y.tree) y.known y.rest)) x q.1 in
-        subst (BeforeItems env all os) (some_is (listed (push all b.0.tree) b.0.known b.0.rest) x b.2) (stmt_before env d all os b.0 (sound env os b.0 b.1))
+        subst (BeforeItems env all os) (same_Some (listed (push all b.0.tree) b.0.known b.0.rest) x b.2) (stmt_before env d all os b.0 (sound env os b.0 b.1))
   ]
 
   both : (b : Bool) → b ≡ true → b ≡ false → ⊥
@@ -391,7 +392,7 @@ module _ (earlier : List DeclTree) where
           | inl a ↦
               let b = bind_some (item_by (λ e ts. stmt_at e n d ts) env n d all os) (λ x. items_at x.known n d x.tree x.rest) g a.1 in
               item_sound (λ e ts. stmt_at e n d ts) env n d all os b.0 (λ e ts g is. stmt_sound e n d ts g is) b.1 g (items_sound b.0.known n d b.0.tree b.0.rest g b.2)
-          | inr a ↦ subst (FoundItems env all os) (some_is (listed all env os) g a.2) (record { front = []; xs = no_stmt; parts = refl; so = no_item; tree = all_none all })
+          | inr a ↦ subst (FoundItems env all os) (same_Some (listed all env os) g a.2) (record { front = []; xs = no_stmt; parts = refl; so = no_item; tree = all_none all })
         ]
 
     stmts_sound : (env : Known) (n d : ℕ) (all : StmtTrees) (os : List Lexeme) (g : Got StmtTrees) → stmts_at env n d all os ≡ Some g → FoundStmts env all os g
@@ -399,7 +400,7 @@ module _ (earlier : List DeclTree) where
     stmts_sound env (suc n) d all [] g e = absurd cc
     stmts_sound env (suc n) d all (o ∷ ts) g e =
         elim (pick (ends_group o.kind) (Some (listed all env (o ∷ ts))) (stmt_at env n d (o ∷ ts) >>= λ x. stmts_at x.known n d (push all x.tree) x.rest) g e) [
-          | inl q ↦ subst (FoundStmts env all (o ∷ ts)) (some_is (listed all env (o ∷ ts)) g q.1) (record { front = []; xs = no_stmt; parts = refl; so = no_more; tree = all_none all; alone = λ _. refl })
+          | inl q ↦ subst (FoundStmts env all (o ∷ ts)) (same_Some (listed all env (o ∷ ts)) g q.1) (record { front = []; xs = no_stmt; parts = refl; so = no_more; tree = all_none all; alone = λ _. refl })
           | inr q ↦
               let b = bind_some (stmt_at env n d (o ∷ ts)) (λ x. stmts_at x.known n d (push all x.tree) x.rest) g q.1 in
               stmts_more env d all (o ∷ ts) b.0 g (stmt_sound env n d (o ∷ ts) b.0 b.1) (stmts_sound b.0.known n d (push all b.0.tree) b.0.rest g b.2)
@@ -413,5 +414,5 @@ module _ (earlier : List DeclTree) where
               let b = bind_some (labels_at env n d [] os) (λ ls. stmts_at env n d no_stmt ls.rest >>= λ ss. groups_at ss.known n d (push_group all ls.tree ss.tree) ss.rest) g a.1 in
               let c = bind_some (stmts_at env n d no_stmt b.0.rest) (λ ss. groups_at ss.known n d (push_group all b.0.tree ss.tree) ss.rest) g b.2 in
               group_before env all os b.0 c.0 g (labels_sound env n d [] os b.0 b.1) (stmts_sound env n d no_stmt b.0.rest c.0 c.1) (groups_sound c.0.known n d (push_group all b.0.tree c.0.tree) c.0.rest g c.2)
-          | inr a ↦ subst (FoundGroups env all os) (some_is (listed all env os) g a.2) (record { front = []; xs = no_group; parts = refl; so = no_groups; tree = groups_none all; begins = λ e. absurd cc })
+          | inr a ↦ subst (FoundGroups env all os) (same_Some (listed all env os) g a.2) (record { front = []; xs = no_group; parts = refl; so = no_groups; tree = groups_none all; begins = λ e. absurd cc })
         ]

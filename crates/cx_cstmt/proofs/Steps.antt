@@ -2,6 +2,7 @@
 use Rattle.std.proofs.Common.{◌≡◌, ℕ, ◌<◌, ◌≤◌, Bool, true, false, cond, not, List, [], ◌∷◌, ◌++◌, length, Option, Some, None, refl, sym, ap, ◌∙◌, append_assoc, arith, inl, inr, ◌⊎◌}
 use Rattle.std.proofs.lemmas.Bool.Decides.{nat_tests}
 use Rattle.std.specs.Prelude.{nat_le}
+use Rattle.std.proofs.lemmas.Option.{same_Some}
 use Rattle.cx_ctree.specs.Exprs.{ExprTree}
 use Rattle.cx_ctree.specs.Stmts.{StmtTree, StmtTrees, no_stmt, also_stmt, GroupTrees, no_group, also_group}
 use Rattle.cx_ctree.specs.Path.{stmt_path}
@@ -9,7 +10,7 @@ use Rattle.cx_cword.specs.declared.lexeme.Lexeme.{Lexeme}
 use Rattle.cx_cword.specs.Reading.{first_of, past_of}
 use Rattle.cx_cname.specs.Known.{Known}
 use Rattle.cx_cexpr.proofs.Spans.{first-append, past-append}
-use Rattle.cx_cexpr.proofs.Steps.{at_first, test_some, some_is}
+use Rattle.cx_cexpr.proofs.Steps.{at_first, test_some}
 use Rattle.cx_cword.specs.declared.mark.Mark.{Mark}
 use Rattle.cx_cstmt.specs.Statements.{all_of}
 use Rattle.cx_cstmt.specs.Reading.{Got, made, next, push, push_group}
@@ -18,7 +19,7 @@ use Rattle.cx_cword.proofs.Marks.{fits_is, kind_of}
 
 pub made_some : (d : ℕ) (x : StmtTree) (env : Known) (past : ℕ) (rest : List Lexeme) (g : Got StmtTree) → made d x env past rest ≡ Some g → (stmt_path x ≤ d) × (◌≡◌ {A = Got StmtTree} (record { tree = x; known = env; past = past; rest = rest }) g)
 unfolding made
-made_some d x env past rest g e = let b = test_some (nat_le (stmt_path x) d) (Some (record { tree = x; known = env; past = past; rest = rest })) g e in (grind (arith, nat_tests, b.0), some_is _ g b.1)
+made_some d x env past rest g e = let b = test_some (nat_le (stmt_path x) d) (Some (record { tree = x; known = env; past = past; rest = rest })) g e in (grind (arith, nat_tests, b.0), same_Some _ g b.1)
 
 -- the mark stands first
 pub record Marked (mark : Mark) (os rest : List Lexeme) : Type 0 where

@@ -2,6 +2,7 @@
 use Rattle.std.proofs.Common.{◌≡◌, ℕ, ◌-◌, ◌≤◌, Bool, true, false, cond, ◌||◌, List, [], ◌∷◌, length, Option, Some, None, ap, ◌∙◌, arith}
 use Rattle.std.proofs.lemmas.Bool.Decides.{nat_tests}
 use Rattle.std.specs.Prelude.{nat_eq}
+use Rattle.cx_base.proofs.General.{not_true}
 use Rattle.cx_ctree.specs.Exprs.{ExprTree, RhsTree, EffectTree}
 use Rattle.cx_ctree.specs.Stmts.{StmtTree, StmtKindTree, block, effect, if_alone, if_else, while, do_while, for, switch, return, StmtTrees, no_stmt, GroupTrees, no_group}
 use Rattle.cx_ctree.specs.Path.{stmt_path}
@@ -12,7 +13,7 @@ use Rattle.cx_cword.specs.Reading.{Is, IsWord, ◌>>=◌, at_lexeme, first_of, p
 use Rattle.cx_cname.specs.Known.{Known}
 use Rattle.cx_cexpr.specs.Reading as expr
 use Rattle.cx_ceffect.specs.Reading.{rhs_at, effect_at}
-use Rattle.cx_cdecl.proofs.Follows.{not_true, bind_goes}
+use Rattle.cx_cdecl.proofs.Follows.{bind_goes}
 use Rattle.cx_cword.specs.declared.mark.Mark.TheVariants as m
 use Rattle.cx_cstmt.specs.declared.kinds.Head.{Head}
 use Rattle.cx_cstmt.specs.Kinds.{head_of, label_of, is_label, begins_label, ends_group, begins_local}

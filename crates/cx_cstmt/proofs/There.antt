@@ -1,6 +1,7 @@
 -- What is spelled as a statement is read as that, whatever follows; after one that ends with an `if` without `else`, no `else` may follow.
 use Rattle.std.proofs.Common.{◌≡◌, ℕ, ◌+◌, ◌-◌, ◌*◌, ◌≤◌, Bool, true, false, ◌||◌, List, [], ◌∷◌, ◌++◌, length, length-append, Option, Some, refl, sym, ap, ◌∙◌, append_assoc, arith}
 use Rattle.std.specs.Prelude.{not, max}
+use Rattle.cx_base.proofs.General.{or_true, not_both_ways}
 use Rattle.cx_ctree.specs.Exprs.{RhsTree}
 use Rattle.cx_ctree.specs.Stmts.{StmtTree, StmtKindTree, empty, break, continue, return, StmtTrees, no_stmt, also_stmt, GroupTrees, no_group}
 use Rattle.cx_ctree.specs.Path.{stmt_path, stmts_path, groups_path}
@@ -34,10 +35,6 @@ use Rattle.cx_cstmt.proofs.StmtGoes.{inner_at, within_at, cases_at, stmt_head, i
 use Rattle.cx_cword.specs.Marks as marks
 
 -- ---- what follows a statement
-
-or_true : (a : Bool) → (a || true) ≡ true
-or_true true = refl
-or_true false = refl
 
 ending_other : (kind : LexemeKind) → ends_group kind ≡ true → marks.fits m.Else kind ≡ false
 ending_other (l.Keyword k.Else) e = absurd cc
@@ -76,10 +73,6 @@ groups_begin (also_groups {a = a} {c = c} {d = d} labels q some also r) e rest =
 all_path : (ss us : StmtTrees) → stmts_path (all_of ss us) ≡ max (stmts_path ss) (stmts_path us)
 all_path no_stmt us = omega arith
 all_path (also_stmt s ss) us = let h = all_path ss us in omega (arith, h)
-
-opposite : (b : Bool) → b ≡ true → b ≡ false → ⊥
-opposite true e f = cc
-opposite false e f = cc
 
 -- ---- statements without statements in them
 
@@ -304,7 +297,7 @@ mutual
       let filled = labels_filled labels in
       let begins : begins_label (a ++ inner) ≡ true = labels_begin labels inner in
       let on : begins_label ts ≡ true = groups_begin r also (e ∷ rest) in
-      let no_label : begins_label inner ≡ false = stmts_no_label q ts (λ f. absurd (opposite (some_stmt ss) some f)) in
+      let no_label : begins_label inner ≡ false = stmts_no_label q ts (λ f. absurd (not_both_ways (some_stmt ss) some f)) in
       let fits1 = fits_less env ((a ++ c ++ b) ++ e ∷ rest) inner fits (omega (arith, whole, long)) in
       let read = labels_there env (fits_few env ((a ++ c ++ b) ++ e ∷ rest) fits) labels (n - 1) d [] inner no_label (omega (arith, room, whole)) (omega (arith, low)) in
       let then = stmts_there q (n - 1) d no_stmt ts (label_ends ts on) fits1 (omega (arith, room, whole, long, filled)) (omega (arith, low)) in

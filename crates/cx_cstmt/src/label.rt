@@ -70,7 +70,7 @@ fn label<'a>(
     }
 }
 
-#[tactic(auto, using(crate::proofs::Lists::map_push))]
+#[tactic(auto, using(cx_base::proofs::General::map_push))]
 fn add_label(all: &mut List<Option<Expr>>, x: Option<Expr>) -> Result<(), NoMemory>
     ensures { OnOk result (map (option_map expr_tree) all.new ≡ map (option_map expr_tree) all.old ++ option_map expr_tree x ∷ []) }
 {

@@ -3,13 +3,10 @@ use Rattle.std.proofs.Common.{◌≡◌, ◌≤◌, ℕ, List, [], ◌∷◌, �
 use Rattle.std.specs.Prelude.{map, All}
 use Rattle.std.proofs.lemmas.List.Elements.{All-nil, All-cons, All-head, All-tail}
 use Rattle.cx_base.specs.declared.token.Token.{Token}
+use Rattle.cx_base.proofs.General.{map_push}
 use Rattle.cx_tword.specs.declared.lexeme.TypeLexeme.{TypeLexeme}
 use Rattle.cx_tword.specs.Lexemes.{type_lexeme_of, type_lexemes}
 use Rattle.cx_tlin.specs.Lexemes.{Inside}
-
-pub map_push : {A B : Type 0} (f : A → B) (xs : List A) (x : A) → map f (xs ++ x ∷ []) ≡ map f xs ++ f x ∷ []
-map_push f [] x = refl
-map_push f (y ∷ xs) x = ap (λ (v : List _). f y ∷ v) (map_push f xs x)
 
 -- lexemes that are pieces of a text
 pub inside_rest : (bytes : List ℕ) (os : List TypeLexeme) (o : TypeLexeme) (rest : List TypeLexeme) → os ≡ o ∷ rest → Inside bytes os → Inside bytes rest

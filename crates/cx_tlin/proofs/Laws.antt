@@ -1,5 +1,6 @@
 -- The laws of the readers, from what their reading functions read.
 use Rattle.std.proofs.Common.{◌≡◌, ℕ, List, [], ◌++◌, length, Option, Some, Result, Ok, Err, IfOk, sym, ap, ◌∙◌, subst}
+use Rattle.std.proofs.lemmas.Option.{same_Some}
 use Rattle.cx_cword.specs.declared.reading.Stop.{Stop}
 use Rattle.cx_cword.specs.Reading.{Gives}
 use Rattle.cx_tsyn.specs.Words.{WordTree}
@@ -15,7 +16,6 @@ use Rattle.cx_tlin.specs.declared.lists.ReadRelations.{ReadRelations}
 use Rattle.cx_tlin.specs.Lins.{IsName, IsPart, IsLin, IsRelation, AreNames, AreLins, AreRelations}
 use Rattle.cx_tlin.specs.Reading.{Got, got_name, got_part, got_lin, got_relation, got_names, got_lins, got_relations, name_at, part_at, lin_at, relation_at, names_at, lins_at, relations_at}
 use Rattle.cx_tlin.specs.Laws.{Found, got_of, ReadsEach, EndsName, EndsPart, EndsLin, EndsNames, EndsLins}
-use Rattle.cx_tlin.proofs.Steps.{some_is}
 use Rattle.cx_tlin.proofs.Sound.{name_filled, lin_filled, relation_filled, name_sound, part_sound, lin_sound, relation_sound, list_sound}
 use Rattle.cx_tlin.proofs.There.{comma_ends, name_there, part_there, lin_there, relation_there, list_there}
 
@@ -97,7 +97,7 @@ relations_each bytes os r h = each_in (AreRelations bytes) EndsLins got_relation
 
 -- what spells a tree spells no other, where it is read
 one_in : {A : Type 0} (read : Option (Got A)) (front : List TypeLexeme) (x y : A) → read ≡ Some (got_of front x []) → read ≡ Some (got_of front y []) → x ≡ y
-one_in read front x y e f = ap (λ (g : Got _). g.tree) (some_is (got_of front x []) (got_of front y []) (sym e ∙ f))
+one_in read front x y e f = ap (λ (g : Got _). g.tree) (same_Some (got_of front x []) (got_of front y []) (sym e ∙ f))
 
 pub one_lin : (bytes : List ℕ) (front : List TypeLexeme) (x y : LinTree) → IsLin bytes front x → IsLin bytes front y → x ≡ y
 one_lin bytes front x y h k = one_in (lin_at bytes (front ++ [])) front x y (lin_there h [] (tt, tt, tt)) (lin_there k [] (tt, tt, tt))

@@ -1,5 +1,6 @@
 -- What is read is spelled so.
 use Rattle.std.proofs.Common.{◌≡◌, ℕ, ℤ, zero, suc, ◌<◌, Bool, true, false, cond, List, [], ◌∷◌, ◌++◌, length, Option, Some, None, refl, sym, ap, ◌∙◌, subst, append_assoc, append-nil, length-append, arith, inl, inr}
+use Rattle.std.proofs.lemmas.Option.{same_Some}
 use Rattle.cx_base.specs.declared.span.Span.{Span}
 use Rattle.cx_cword.specs.declared.word.Punctuator.TheVariants as p
 use Rattle.cx_cword.specs.Reading.{span_between, ◌>>=◌}
@@ -15,7 +16,7 @@ use Rattle.cx_tlin.specs.Kinds.{is_name, is_star, is_comma, is_minus, sign_of, r
 use Rattle.cx_tlin.specs.Reading.{Got, at_lexeme, word_at, name_at, times_at, number_at, part_by, part_at, signed_by, parts_at, lin_from, lin_at, related_by, relation_at, list_at}
 use Rattle.cx_tlin.specs.Laws.{Found}
 use Rattle.cx_tlin.proofs.Spans.{past-append, spanned, past_from, past_after, past_behind, begins_at, two_parts, two_ends}
-use Rattle.cx_tlin.proofs.Steps.{bind_some, some_is, at_first, at_rest, test_some, pick, name_is, star_is, comma_is, minus_is, sign_plus, sign_minus, relation_is}
+use Rattle.cx_tlin.proofs.Steps.{bind_some, at_first, at_rest, test_some, pick, name_is, star_is, comma_is, minus_is, sign_plus, sign_minus, relation_is}
 
 -- ---- what is spelled has a lexeme
 
@@ -40,7 +41,7 @@ pub name_sound : (bytes : List ℕ) (os : List TypeLexeme) (g : Got WordTree) �
 name_sound bytes os g e =
     let a = at_first os (λ o rest. cond (is_name o.kind) (Some (record { tree = word_at bytes o.span; past = o.span.past; rest = rest })) None) g e in
     let b = test_some (is_name a.0.kind) (Some (record { tree = word_at bytes a.0.span; past = a.0.span.past; rest = a.1 })) g a.3 in
-    subst (λ (w : List TypeLexeme). Found (IsName bytes) w g) (sym a.2) (subst (Found (IsName bytes) (a.0 ∷ a.1)) (some_is (record { tree = word_at bytes a.0.span; past = a.0.span.past; rest = a.1 }) g b.1) (record {
+    subst (λ (w : List TypeLexeme). Found (IsName bytes) w g) (sym a.2) (subst (Found (IsName bytes) (a.0 ∷ a.1)) (same_Some (record { tree = word_at bytes a.0.span; past = a.0.span.past; rest = a.1 }) g b.1) (record {
       front = a.0 ∷ [];
       parts = refl;
       spelled_so = named a.0 (name_is a.0.kind b.0);
@@ -48,13 +49,13 @@ name_sound bytes os g e =
     }))
 
 alone_found : (bytes : List ℕ) (o : TypeLexeme) (rest : List TypeLexeme) (z : ℤ) (g : Got LinPartTree) → o.kind ≡ l.Number z → Some (record { tree = number z; past = o.span.past; rest = rest }) ≡ Some g → Found (IsPart bytes) (o ∷ rest) g
-alone_found bytes o rest z g e h = subst (Found (IsPart bytes) (o ∷ rest)) (some_is (record { tree = number z; past = o.span.past; rest = rest }) g h) (record { front = o ∷ []; parts = refl; spelled_so = part_number o z e; past = refl })
+alone_found bytes o rest z g e h = subst (Found (IsPart bytes) (o ∷ rest)) (same_Some (record { tree = number z; past = o.span.past; rest = rest }) g h) (record { front = o ∷ []; parts = refl; spelled_so = part_number o z e; past = refl })
 
 times_found : (bytes : List ℕ) (o m : TypeLexeme) (rest : List TypeLexeme) (z : ℤ) (g : Got LinPartTree) → o.kind ≡ l.Number z → Is p.Star m → times_at bytes z rest ≡ Some g → Found (IsPart bytes) (o ∷ m ∷ rest) g
 times_found bytes o m rest z g e star h =
     let b = bind_some (name_at bytes rest) (λ x. Some (record { tree = times z x.tree; past = x.past; rest = x.rest })) g h in
     let f = name_sound bytes rest b.0 b.1 in
-    subst (Found (IsPart bytes) (o ∷ m ∷ rest)) (some_is (record { tree = times z b.0.tree; past = b.0.past; rest = b.0.rest }) g b.2) (record {
+    subst (Found (IsPart bytes) (o ∷ m ∷ rest)) (same_Some (record { tree = times z b.0.tree; past = b.0.past; rest = b.0.rest }) g b.2) (record {
       front = o ∷ m ∷ f.front;
       parts = ap (λ (v : List TypeLexeme). o ∷ m ∷ v) f.parts;
       spelled_so = part_times o m z e star f.spelled_so;
@@ -73,7 +74,7 @@ number_sound bytes o rest z g e h =
     ]
 
 symbol_found : (bytes : List ℕ) (o : TypeLexeme) (rest : List TypeLexeme) (g : Got LinPartTree) → o.kind ≡ l.Name → Some (record { tree = symbol (word_at bytes o.span); past = o.span.past; rest = rest }) ≡ Some g → Found (IsPart bytes) (o ∷ rest) g
-symbol_found bytes o rest g e h = subst (Found (IsPart bytes) (o ∷ rest)) (some_is (record { tree = symbol (word_at bytes o.span); past = o.span.past; rest = rest }) g h) (record { front = o ∷ []; parts = refl; spelled_so = part_symbol (named o e); past = refl })
+symbol_found bytes o rest g e h = subst (Found (IsPart bytes) (o ∷ rest)) (same_Some (record { tree = symbol (word_at bytes o.span); past = o.span.past; rest = rest }) g h) (record { front = o ∷ []; parts = refl; spelled_so = part_symbol (named o e); past = refl })
 
 part_step : (bytes : List ℕ) (o : TypeLexeme) (rest : List TypeLexeme) (kind : TypeLexemeKind) (g : Got LinPartTree) → o.kind ≡ kind → part_by bytes o rest kind ≡ Some g → Found (IsPart bytes) (o ∷ rest) g
 part_step bytes o rest (l.Number z) g e h = number_sound bytes o rest z g e h
@@ -98,7 +99,7 @@ record FoundParts (bytes : List ℕ) (all : List (Bool × LinPartTree)) (past : 
   ends : past_from past front ≡ g.past
 
 none_found : (bytes : List ℕ) (all : List (Bool × LinPartTree)) (past : ℕ) (os : List TypeLexeme) (g : Got (List (Bool × LinPartTree))) → Some (record { tree = all; past = past; rest = os }) ≡ Some g → FoundParts bytes all past os g
-none_found bytes all past os g e = subst (FoundParts bytes all past os) (some_is (record { tree = all; past = past; rest = os }) g e) (record { front = []; xs = []; parts = refl; spelled_so = no_part; tree = append-nil all; ends = refl })
+none_found bytes all past os g e = subst (FoundParts bytes all past os) (same_Some (record { tree = all; past = past; rest = os }) g e) (record { front = []; xs = []; parts = refl; spelled_so = no_part; tree = append-nil all; ends = refl })
 
 signed_part : {bytes : List ℕ} {a c : List TypeLexeme} {x : LinPartTree} {xs : List (Bool × LinPartTree)} (o : TypeLexeme) (minus : Bool) → sign_of o.kind ≡ Some minus → IsPart bytes a x → AreParts bytes c xs → AreParts bytes (o ∷ a ++ c) ((minus, x) ∷ xs)
 signed_part o true e h hs = minus_part o (sign_minus o.kind e) h hs
@@ -164,7 +165,7 @@ from_sound bytes negative first os g e =
     let done : Got LinPartTree → Got (List (Bool × LinPartTree)) → Got LinTree = λ x y. record { tree = record { span = span_between first y.past; negative = negative; first = x.tree; rest = y.tree }; past = y.past; rest = y.rest } in
     let b = bind_some (part_at bytes os) (λ x. parts_at bytes (length x.rest) [] x.past x.rest >>= λ y. Some (done x y)) g e in
     let d = bind_some (parts_at bytes (length b.0.rest) [] b.0.past b.0.rest) (λ y. Some (done b.0 y)) g b.2 in
-    subst (FoundFrom bytes negative first os) (some_is (done b.0 d.0) g d.2) (from_found bytes negative first os b.0 d.0 (part_sound bytes os b.0 b.1) (parts_sound bytes (length b.0.rest) [] b.0.past b.0.rest d.0 d.1))
+    subst (FoundFrom bytes negative first os) (same_Some (done b.0 d.0) g d.2) (from_found bytes negative first os b.0 d.0 (part_sound bytes os b.0 b.1) (parts_sound bytes (length b.0.rest) [] b.0.past b.0.rest d.0 d.1))
 
 abbrev lin_with : Bool → LinPartTree → List (Bool × LinPartTree) → Span → LinTree
 lin_with negative x xs s = record { span = s; negative = negative; first = x; rest = xs }
@@ -210,7 +211,7 @@ related_step bytes whole x o ts (Some rel) g f is kind e =
     let b = bind_some (lin_at bytes ts) (λ y. Some (done y)) g e in
     let q = lin_sound bytes ts b.0 b.1 in
     let k = relation_is o.kind rel kind in
-    subst (Found (IsRelation bytes) whole) (some_is (done b.0) g b.2) (record {
+    subst (Found (IsRelation bytes) whole) (same_Some (done b.0) g b.2) (record {
       front = f.front ++ o ∷ q.front;
       parts = two_parts whole f.front x.rest ts q.front b.0.rest o f.parts is q.parts;
       spelled_so = related o k.0 rel f.spelled_so k.1 k.2 q.spelled_so;
@@ -245,7 +246,7 @@ module _ {A : Type 0} (Spells : List TypeLexeme → A → Type 0) (filled : (os 
   done_with all x = record { tree = all ++ x.tree ∷ []; past = x.past; rest = x.rest }
 
   last_found : (all : List A) (whole : List TypeLexeme) (x : Got A) (g : Got (List A)) → Found Spells whole x → Some (done_with all x) ≡ Some g → FoundMore all whole g
-  last_found all whole x g f e = subst (FoundMore all whole) (some_is (done_with all x) g e) (record { front = f.front; xs = x.tree ∷ []; parts = f.parts; spelled_so = last_item f.spelled_so; past = f.past; tree = refl })
+  last_found all whole x g f e = subst (FoundMore all whole) (same_Some (done_with all x) g e) (record { front = f.front; xs = x.tree ∷ []; parts = f.parts; spelled_so = last_item f.spelled_so; past = f.past; tree = refl })
 
   also_found : (all : List A) (whole : List TypeLexeme) (x : Got A) (o : TypeLexeme) (ts : List TypeLexeme) (g : Got (List A)) → Found Spells whole x → x.rest ≡ o ∷ ts → Is p.Comma o → FoundMore (all ++ x.tree ∷ []) ts g → FoundMore all whole g
   also_found all whole x o ts g f is comma q = record {

@@ -1,5 +1,6 @@
 -- Steps of reading that gave an answer, and what a lexeme is that is taken at a place.
 use Rattle.std.proofs.Common.{◌≡◌, Bool, true, false, cond, List, [], ◌∷◌, Option, Some, None, refl, inl, inr, ◌⊎◌}
+use Rattle.std.proofs.lemmas.Option.{same_Some}
 use Rattle.cx_cword.specs.declared.word.Punctuator.{Punctuator}
 use Rattle.cx_cword.specs.declared.word.Punctuator.TheVariants as p
 use Rattle.cx_cword.specs.Reading.{◌>>=◌}
@@ -14,9 +15,6 @@ use Rattle.cx_tlin.specs.Reading.{at_lexeme}
 pub bind_some : {A B : Type 0} (o : Option A) (f : A → Option B) (y : B) → (o >>= f) ≡ Some y → (x : A) × (o ≡ Some x) × (f x ≡ Some y)
 bind_some (Some x) f y e = (x, refl, e)
 bind_some None f y e = absurd cc
-
-pub some_is : {A : Type 0} (x y : A) → Some x ≡ Some y → x ≡ y
-some_is x y e = cc
 
 pub at_first : {A : Type 0} (os : List TypeLexeme) (go : TypeLexeme → List TypeLexeme → Option A) (g : A) → at_lexeme os None go ≡ Some g → (o : TypeLexeme) × (rest : List TypeLexeme) × (os ≡ o ∷ rest) × (go o rest ≡ Some g)
 at_first [] go g e = absurd cc

@@ -37,7 +37,7 @@ pub struct ReadRelation<'a> {
 }
 
 // The signed parts after a part that ends at `past`.
-#[tactic(auto, using(crate::proofs::Turns::parts_turn, crate::proofs::Turns::parts_none, crate::proofs::Growing::map_push))]
+#[tactic(auto, using(crate::proofs::Turns::parts_turn, crate::proofs::Turns::parts_none, cx_base::proofs::General::map_push))]
 fn parts<'a>(
     alloc: Global,
     bytes: &[u8],

@@ -40,7 +40,7 @@ pub struct ReadRelations<'a> {
 }
 
 // Names with commas between them, at least one.
-#[tactic(auto, using(crate::proofs::Turns::list_turn, crate::proofs::Turns::list_none, crate::proofs::Growing::map_push))]
+#[tactic(auto, using(crate::proofs::Turns::list_turn, crate::proofs::Turns::list_none, cx_base::proofs::General::map_push))]
 pub fn read_names<'a>(
     alloc: Global,
     bytes: &[u8],
@@ -84,7 +84,7 @@ pub fn read_names<'a>(
 }
 
 // Linear forms with commas between them, at least one.
-#[tactic(auto, using(crate::proofs::Turns::list_turn, crate::proofs::Turns::list_none, crate::proofs::Growing::map_push))]
+#[tactic(auto, using(crate::proofs::Turns::list_turn, crate::proofs::Turns::list_none, cx_base::proofs::General::map_push))]
 pub fn read_lins<'a>(
     alloc: Global,
     bytes: &[u8],
@@ -128,7 +128,7 @@ pub fn read_lins<'a>(
 }
 
 // Relations with commas between them, at least one.
-#[tactic(auto, using(crate::proofs::Turns::list_turn, crate::proofs::Turns::list_none, crate::proofs::Growing::map_push))]
+#[tactic(auto, using(crate::proofs::Turns::list_turn, crate::proofs::Turns::list_none, cx_base::proofs::General::map_push))]
 pub fn read_relations<'a>(
     alloc: Global,
     bytes: &[u8],

@@ -1,8 +1,9 @@
 use Rattle.std.proofs.Common.{rules, ◌∙◌, ap}
 use Rattle.std.specs.Prelude.{map}
+use Rattle.cx_base.proofs.General.{map_push}
 use Rattle.cx_tsyn.specs.Lins.{relation_tree}
 use Rattle.cx_tlin.specs.Reading.{got_relation, relation_at}
-use Rattle.cx_tlin.proofs.Growing.{inside_rest, map_push}
+use Rattle.cx_tlin.proofs.Growing.{inside_rest}
 use Rattle.cx_tlin.proofs.Turns.{list_goes}
 use Rattle.cx_tlin.proofs.lists.read_relations.Goals as goal
 
