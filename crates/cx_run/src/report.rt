@@ -1,7 +1,8 @@
 ghost use Rattle.std.specs.Prelude.{◌≡◌, ◌++◌, ◌≤◌, ◌^◌, length, OnOk, IfOk};
+ghost use Rattle.cx_run.specs.Positions.{IsIn};
 ghost use Rattle.cx_run.specs.Report.{region_name, access_line, access_lines, condition_text, alarm_line, accepted_lines, alarmed_lines, summary, title, empty_report, accepted_report, alarmed_report};
 
-use crate::text::{push_all, push_number, push_place, push_text};
+use crate::text::{Position, first_position, push_all, push_number, push_place, push_text};
 use cx_base::{List, NoMemory};
 use cx_form::TypeFile;
 use cx_sorts::{Access, Condition};
@@ -20,14 +21,17 @@ fn push_region_name(out: &mut List<u8>, types: &TypeFile, k: u32) -> Result<(), 
 fn push_access(
     out: &mut List<u8>,
     source: &[u8],
+    known: &mut Position,
     types: &TypeFile,
     access: Access,
 ) -> Result<(), NoMemory>
-    requires { length source.now ≤ 2 ^ 24 }
-    ensures { OnOk result (out.new ≡ out.old ++ access_line source.now types.now access) }
+    requires small { length source.now ≤ 2 ^ 24 }
+    requires known { IsIn source.now known.old }
+    ensures known { IsIn source.now known.new }
+    ensures pushed { OnOk result (out.new ≡ out.old ++ access_line source.now types.now access) }
 {
     push_text(out, "  access ")?;
-    push_place(out, source, access.span)?;
+    push_place(out, source, known, access.span)?;
     push_text(out, " ")?;
     push_region_name(out, types, access.name)?;
     push_text(out, "\n")
@@ -36,14 +40,17 @@ fn push_access(
 fn push_accesses(
     out: &mut List<u8>,
     source: &[u8],
+    known: &mut Position,
     types: &TypeFile,
     accesses: &[Access],
 ) -> Result<(), NoMemory>
-    requires { length source.now ≤ 2 ^ 24 }
-    ensures { OnOk result (out.new ≡ out.old ++ access_lines source.now types.now accesses.now) }
+    requires small { length source.now ≤ 2 ^ 24 }
+    requires known { IsIn source.now known.old }
+    ensures known { IsIn source.now known.new }
+    ensures pushed { OnOk result (out.new ≡ out.old ++ access_lines source.now types.now accesses.now) }
 {
     for a in accesses {
-        push_access(out, source, types, *a)?;
+        push_access(out, source, known, types, *a)?;
     }
     Ok(())
 }
@@ -60,14 +67,20 @@ fn condition_text(number: u8) -> &'static str
     }
 }
 
-fn push_alarm(out: &mut List<u8>, source: &[u8], condition: Condition) -> Result<(), NoMemory>
-    requires { length source.now ≤ 2 ^ 24 }
+fn push_alarm(
+    out: &mut List<u8>,
+    source: &[u8],
+    known: &mut Position,
+    condition: Condition,
+) -> Result<(), NoMemory>
+    requires small { length source.now ≤ 2 ^ 24 }
+    requires known { IsIn source.now known.old }
     ensures { OnOk result (out.new ≡ out.old ++ alarm_line source.now condition) }
 {
     push_text(out, "  alarm C")?;
     push_number(out, u64::from(condition.number))?;
     push_text(out, " ")?;
-    push_place(out, source, condition.span)?;
+    push_place(out, source, known, condition.span)?;
     push_text(out, " ")?;
     push_text(out, condition_text(condition.number))?;
     push_text(out, "\n")
@@ -106,7 +119,8 @@ fn push_accepted(
     push_text(out, "function ")?;
     push_all(out, name)?;
     push_text(out, " accepted\n")?;
-    push_accesses(out, source, types, accesses)
+    let mut known = first_position(source);
+    push_accesses(out, source, &mut known, types, accesses)
 }
 
 fn push_alarmed(
@@ -123,8 +137,9 @@ fn push_alarmed(
     push_text(out, "function ")?;
     push_all(out, name)?;
     push_text(out, " alarms 1\n")?;
-    push_accesses(out, source, types, accesses)?;
-    push_alarm(out, source, condition)
+    let mut known = first_position(source);
+    push_accesses(out, source, &mut known, types, accesses)?;
+    push_alarm(out, source, &mut known, condition)
 }
 
 /// The report where the files have no function.
