@@ -39,7 +39,7 @@ fn read(alloc: Global, bytes: &[u8]) -> Result<List<Token>, LexFault>
 /// text, a text has at most one reading.
 ///
 /// The tokens stand in the text in order, no two meet, and each byte is in exactly one token or in
-/// exactly one piece that is passed over.
+/// exactly one piece that is passed over; so there are at most as many tokens as bytes.
 ///
 /// Each fault comes exactly where reading stops at its byte for its cause, and is the first in the
 /// text. `NoMemory` may come in place of any answer.
@@ -47,6 +47,7 @@ pub fn lex(alloc: Global, bytes: &[u8]) -> Result<List<Token>, LexFault>
     requires { length bytes.now ≤ 2 ^ 24 }
     ensures reading { Answers result (lexed bytes.now) }
     ensures in_order { IfOk result (λ tokens. InOrder 0 (length bytes.now) tokens) }
+    ensures count { IfOk result (λ tokens. length tokens ≤ length bytes.now) }
     ensures inside { IfOk result (All (λ t. t.span.past ≤ length bytes.now)) }
     ensures whole { IfOk result (λ tokens. IsCut 0 bytes.now tokens) }
 {

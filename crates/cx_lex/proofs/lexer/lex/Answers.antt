@@ -3,7 +3,7 @@ use Rattle.cx_base.specs.declared.token.Token.{Token}
 use Rattle.cx_lex.specs.declared.fault.LexFault.{LexFault}
 use Rattle.cx_lex.specs.Lexed.{Answers}
 use Rattle.cx_lex.proofs.Agrees.{agrees}
-use Rattle.cx_lex.proofs.Inside.{inside}
+use Rattle.cx_lex.proofs.Inside.{inside, count}
 use Rattle.cx_lex.proofs.Order.{ordered}
 use Rattle.cx_lex.proofs.Pieces.{is_cut}
 use Rattle.cx_lex.proofs.lexer.lex.Goals as goal
@@ -19,3 +19,6 @@ returns-clause-inside c = inside c.read.result _ (ordered c.read.result c.args.b
 
 pub returns-clause-whole : goal.returns-clause-whole
 returns-clause-whole c = is_cut c.read.result c.args.bytes.now (subst (λ (r : Result (List Token) LexFault). Answers c.read.result r) (agrees c.args.bytes.now) c.read.ensures)
+
+pub returns-clause-count : goal.returns-clause-count
+returns-clause-count c = count c.read.result _ (ordered c.read.result c.args.bytes.now (subst (λ (r : Result (List Token) LexFault). Answers c.read.result r) (agrees c.args.bytes.now) c.read.ensures))
