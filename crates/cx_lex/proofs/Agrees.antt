@@ -2,21 +2,19 @@
 use Rattle.std.proofs.Common.{◌≡◌, ℕ, suc, ◌+◌, Bool, true, false, List, [], ◌∷◌, take, Option, Some, None, Result, Ok, Err, refl, sym, ap, subst, ◌∙◌, arith, add-zero, add-one, inl, inr, ◌==◌, ◌&&◌, ◌||◌}
 use Rattle.std.proofs.lemmas.Bool.{cases_Bool, eqb-true}
 use Rattle.std.proofs.lemmas.Bool.Decides.{nat_tests}
-use Rattle.std.specs.Prelude.{option_map, if◌then◌else◌}
+use Rattle.std.specs.Prelude.{option_map, codes, if◌then◌else◌}
 use Rattle.cx_base.specs.declared.token.TokenKind.{TokenKind}
 use Rattle.cx_base.specs.declared.token.TokenKind.TheVariants as kind
 use Rattle.cx_base.specs.declared.token.Token.{Token}
 use Rattle.cx_lex.specs.declared.fault.LexFault.{LexFault}
 use Rattle.cx_lex.specs.declared.fault.LexFault.TheVariants.{OpenComment, OpenText, BadByte}
-use Rattle.cx_lex.specs.declared.mode.Directive.{Directive}
-use Rattle.cx_lex.specs.declared.mode.Directive.TheVariants as d
 use Rattle.cx_lex.specs.declared.mode.Mode.TheVariants as m
 use Rattle.cx_lex.specs.declared.mode.State.{State}
 use Rattle.cx_lex.specs.Bytes.{is_blank, is_indent, starts_name, is_digit, in_name, is_exponent, in_number, is_mark, is_single, is_double, is_triple, is_digraph}
-use Rattle.cx_lex.specs.Directives.{is_layout_pragma}
-use Rattle.cx_lex.specs.Lexed.{name_len, number_len, line_len, quoted_len, comment_len, punct_len, next_is, passed, stopped, mark_kind, quoted_piece, comment_piece, punct_piece, other_piece, token, with_token, piece_then, tokens_from, lexed}
-use Rattle.cx_lex.specs.Machine.{at_mode, follow, is_layout, begin, begun, after_one, after_two, in_quotes, in_hash, turn, end, with_ended, after, run}
-use Rattle.cx_lex.proofs.Pragmas.{is_layout_from, ends, steps}
+use Rattle.cx_lex.specs.Directives.{is_refused}
+use Rattle.std.specs.Str.{bytes_eq}
+use Rattle.cx_lex.specs.Lexed.{name_len, number_len, line_len, quoted_len, comment_len, punct_len, next_is, passed, taken, stopped, mark_kind, quoted_piece, comment_piece, punct_piece, other_piece, token, with_token, piece_then, tokens_from, lexed}
+use Rattle.cx_lex.specs.Machine.{at_mode, begin, begun, after_one, after_two, in_quotes, turn, end, with_ended, after, run}
 
 abbrev Answer : Type 0
 Answer = Result (List Token) LexFault
@@ -29,10 +27,6 @@ abbrev comment_then : ℕ → ℕ → List ℕ → Option ℕ → Answer
 comment_then start at bs None = Err (OpenComment start)
 comment_then start at bs (Some n) = tokens_from n false at bs
 
-abbrev hash_then : ℕ → ℕ → List ℕ → Bool → Answer
-hash_then start at bs true = Err (BadByte start)
-hash_then start at bs false = tokens_from (line_len bs) false at bs
-
 -- what the machine gives for these bytes in each mode
 record Runs (bs : List ℕ) : Type 0 where
   blank : (fresh : Bool) (start at : ℕ) → run (at_mode (m.Blank fresh) start) at bs ≡ tokens_from 0 fresh at bs
@@ -41,7 +35,6 @@ record Runs (bs : List ℕ) : Type 0 where
   quoted : (mark : ℕ) (escaped : Bool) (start at : ℕ) → run (at_mode (m.Quoted mark escaped) start) at bs ≡ quoted_then start at (mark_kind mark) bs (quoted_len mark escaped bs)
   comment : (star : Bool) (start at : ℕ) → run (at_mode (m.Comment star) start) at bs ≡ comment_then start at bs (comment_len star bs)
   line : (start at : ℕ) → run (at_mode m.Line start) at bs ≡ tokens_from (line_len bs) false at bs
-  hash : (words : Directive) (start at : ℕ) → run (at_mode (m.Hash words) start) at bs ≡ hash_then start at bs (is_layout_from words (take (line_len bs) bs))
   one : (a start : ℕ) → is_single a ≡ true → run (at_mode (m.One a) start) (suc start) bs ≡ piece_then start (other_piece a bs) (λ n fresh. tokens_from n fresh (suc start) bs)
   two : (a c start : ℕ) → is_double a c ≡ true → run (at_mode (m.Two a c) start) (suc (suc start)) bs ≡ piece_then start (punct_piece (punct_len (a ∷ c ∷ bs))) (λ n fresh. tokens_from n fresh (suc start) (c ∷ bs))
   dots : (start : ℕ) → run (at_mode (m.Two 46 46) start) (suc (suc start)) bs ≡ piece_then start (punct_piece (punct_len (46 ∷ 46 ∷ bs))) (λ n fresh. tokens_from n fresh (suc start) (46 ∷ bs))
@@ -90,22 +83,22 @@ begun_tokens None (Some u) (Err f) go = refl
 begun_tokens (Some t) (Some u) (Ok s) go = refl
 begun_tokens (Some t) (Some u) (Err f) go = refl
 
-name_step : (b : ℕ) (bs : List ℕ) → Runs bs → ((fresh : Bool) (at : ℕ) → after (begun None None (begin fresh at b)) (λ s. run s (suc at) bs) ≡ tokens_from 0 fresh at (b ∷ bs))
+name_step : (b : ℕ) (bs : List ℕ) → Runs bs → ((fresh : Bool) (at : ℕ) → after (begun None None (begin fresh at b bs)) (λ s. run s (suc at) bs) ≡ tokens_from 0 fresh at (b ∷ bs))
     → (start at : ℕ) → run (at_mode m.Name start) at (b ∷ bs) ≡ with_token (token kind.Name start (at + name_len (b ∷ bs))) (tokens_from (name_len (b ∷ bs)) false at (b ∷ bs))
 unfolding run turn
 name_step b bs h begins start at =
     elim (cases_Bool (in_name b)) [
       | inl on ↦ let e : at + suc (name_len bs) ≡ suc at + name_len bs = omega arith in rw (on, e) (h.name start (suc at))
-      | inr off ↦ rw (off, add-zero) (begun_tokens (Some (token kind.Name start at)) None (begin false at b) (λ s. run s (suc at) bs) ∙ ap (with_token (token kind.Name start at)) (begins false at))
+      | inr off ↦ rw (off, add-zero) (begun_tokens (Some (token kind.Name start at)) None (begin false at b bs) (λ s. run s (suc at) bs) ∙ ap (with_token (token kind.Name start at)) (begins false at))
     ]
 
-number_step : (b : ℕ) (bs : List ℕ) → Runs bs → ((fresh : Bool) (at : ℕ) → after (begun None None (begin fresh at b)) (λ s. run s (suc at) bs) ≡ tokens_from 0 fresh at (b ∷ bs))
+number_step : (b : ℕ) (bs : List ℕ) → Runs bs → ((fresh : Bool) (at : ℕ) → after (begun None None (begin fresh at b bs)) (λ s. run s (suc at) bs) ≡ tokens_from 0 fresh at (b ∷ bs))
     → (x : Bool) (start at : ℕ) → run (at_mode (m.Number x) start) at (b ∷ bs) ≡ with_token (token kind.Number start (at + number_len x (b ∷ bs))) (tokens_from (number_len x (b ∷ bs)) false at (b ∷ bs))
 unfolding run turn
 number_step b bs h begins x start at =
     elim (cases_Bool (in_number x b)) [
       | inl on ↦ let e : at + suc (number_len (is_exponent b) bs) ≡ suc at + number_len (is_exponent b) bs = omega arith in rw (on, e) (h.number (is_exponent b) start (suc at))
-      | inr off ↦ rw (off, add-zero) (begun_tokens (Some (token kind.Number start at)) None (begin false at b) (λ s. run s (suc at) bs) ∙ ap (with_token (token kind.Number start at)) (begins false at))
+      | inr off ↦ rw (off, add-zero) (begun_tokens (Some (token kind.Number start at)) None (begin false at b bs) (λ s. run s (suc at) bs) ∙ ap (with_token (token kind.Number start at)) (begins false at))
     ]
 
 line_step : (b : ℕ) (bs : List ℕ) → Runs bs → (start at : ℕ) → run (at_mode m.Line start) at (b ∷ bs) ≡ tokens_from (line_len (b ∷ bs)) false at (b ∷ bs)
@@ -144,46 +137,6 @@ comment_step b bs h star start at =
       | inr on ↦ rw on (h.comment (b == 42) start (suc at) ∙ later_comment start at b bs (comment_len (b == 42) bs))
     ]
 
-later_hash : (start at b : ℕ) (bs : List ℕ) → (b == 10) ≡ false → (x : Bool) → hash_then start (suc at) bs x ≡ hash_then start at (b ∷ bs) x
-later_hash start at b bs on true = refl
-later_hash start at b bs on false = rw on refl
-
--- the end of the line
-hash_stop : (b : ℕ) (bs : List ℕ) → Runs bs → (b == 10) ≡ true → (words : Directive) (start at : ℕ) → run (at_mode (m.Hash words) start) at (b ∷ bs) ≡ hash_then start at (b ∷ bs) (is_layout words)
-unfolding run turn in_hash
-hash_stop b bs h stop words start at =
-    elim (cases_Bool (is_layout words)) [
-      | inl layout ↦ rw (stop, layout) refl
-      | inr other ↦ rw (stop, other, stop, stop) (h.blank true at (suc at))
-    ]
-
-stopped_line : (b : ℕ) (bs : List ℕ) → (b == 10) ≡ true → (words : Directive) → is_layout words ≡ is_layout_from words (take (line_len (b ∷ bs)) (b ∷ bs))
-stopped_line b bs stop words = rw stop (sym (ends words))
-
-further_line : (b : ℕ) (bs : List ℕ) → (b == 10) ≡ false → (words : Directive) → is_layout_from (follow words b) (take (line_len bs) bs) ≡ is_layout_from words (take (line_len (b ∷ bs)) (b ∷ bs))
-further_line b bs on words = rw on (sym (steps words b (take (line_len bs) bs)))
-
-follows_on : (b : ℕ) (bs : List ℕ) → (b == 10) ≡ false → (words : Directive) (start at : ℕ) → run (at_mode (m.Hash words) start) at (b ∷ bs) ≡ run (at_mode (m.Hash (follow words b)) start) (suc at) bs
-unfolding run turn in_hash
-follows_on b bs on words start at = rw on refl
-
-hash_on : (b : ℕ) (bs : List ℕ) → Runs bs → (b == 10) ≡ false → (words : Directive) (start at : ℕ) → run (at_mode (m.Hash words) start) at (b ∷ bs) ≡ hash_then start at (b ∷ bs) (is_layout_from (follow words b) (take (line_len bs) bs))
-hash_on b bs h on words start at = follows_on b bs on words start at ∙ (h.hash (follow words b) start (suc at) ∙ later_hash start at b bs on (is_layout_from (follow words b) (take (line_len bs) bs)))
-
-hash_step : (b : ℕ) (bs : List ℕ) → Runs bs → (words : Directive) (start at : ℕ) → run (at_mode (m.Hash words) start) at (b ∷ bs) ≡ hash_then start at (b ∷ bs) (is_layout_from words (take (line_len (b ∷ bs)) (b ∷ bs)))
-hash_step b bs h words start at =
-    elim (cases_Bool (b == 10)) [
-      | inl stop ↦ hash_stop b bs h stop words start at ∙ ap (hash_then start at (b ∷ bs)) (stopped_line b bs stop words)
-      | inr on ↦ hash_on b bs h on words start at ∙ ap (hash_then start at (b ∷ bs)) (further_line b bs on words)
-    ]
-
-hash_nil : (words : Directive) (start at : ℕ) → run (at_mode (m.Hash words) start) at [] ≡ hash_then start at [] (is_layout_from words [])
-unfolding run end
-hash_nil words start at = elim (cases_Bool (is_layout words)) [
-  | inl layout ↦ rw (ends words, layout) refl
-  | inr other ↦ rw (ends words, other) refl
-]
-
 -- ---- what a byte begins
 
 quoted_begins : (at : ℕ) (k : TokenKind) (bs : List ℕ) (n : Option ℕ) → quoted_then at (suc at) k bs n ≡ piece_then at (quoted_piece k n) (λ n fresh. tokens_from n fresh (suc at) bs)
@@ -194,9 +147,13 @@ comment_begins : (at : ℕ) (b : ℕ) (bs : List ℕ) (n : Option ℕ) → comme
 comment_begins at b bs None = refl
 comment_begins at b bs (Some n) = refl
 
-hash_begins : (at : ℕ) (bs : List ℕ) (x : Bool) → hash_then at (suc at) bs x ≡ piece_then at (if x then stopped BadByte else passed (line_len bs) false) (λ n fresh. tokens_from n fresh (suc at) bs)
-hash_begins at bs true = refl
-hash_begins at bs false = refl
+hash_begins : (at : ℕ) (bs : List ℕ) → Runs bs → (x : Bool) → after (begun None None (if x then Err (BadByte at) else Ok (at_mode m.Line at))) (λ s. run s (suc at) bs) ≡ piece_then at (if x then stopped BadByte else passed (line_len bs) false) (λ n fresh. tokens_from n fresh (suc at) bs)
+hash_begins at bs h true = refl
+hash_begins at bs h false = h.line at (suc at)
+
+name_begins : (at : ℕ) (bs : List ℕ) → Runs bs → (x : Bool) → after (begun None None (if x then Err (BadByte at) else Ok (at_mode m.Name at))) (λ s. run s (suc at) bs) ≡ piece_then at (if x then stopped BadByte else taken kind.Name (name_len bs)) (λ n fresh. tokens_from n fresh (suc at) bs)
+name_begins at bs h true = refl
+name_begins at bs h false = h.name at (suc at)
 
 no_digraph : (a : ℕ) (bs : List ℕ) → is_single a ≡ false → next_is (is_digraph a) bs ≡ false
 no_digraph a [] h = refl
@@ -211,7 +168,7 @@ nothing_begins : (a : ℕ) (bs : List ℕ) → is_single a ≡ false → other_p
 unfolding other_piece
 nothing_begins a bs h = let dot = dot_is_single a h in let slash = slash_is_single a h in rw (dot, slash, no_digraph a bs h, no_two a bs h) refl
 
-begin_run : (b : ℕ) (bs : List ℕ) → Runs bs → (fresh : Bool) (at : ℕ) → after (begun None None (begin fresh at b)) (λ s. run s (suc at) bs) ≡ tokens_from 0 fresh at (b ∷ bs)
+begin_run : (b : ℕ) (bs : List ℕ) → Runs bs → (fresh : Bool) (at : ℕ) → after (begun None None (begin fresh at b bs)) (λ s. run s (suc at) bs) ≡ tokens_from 0 fresh at (b ∷ bs)
 unfolding begin
 begin_run b bs h fresh at =
     elim (cases_Bool (b == 10)) [
@@ -219,9 +176,9 @@ begin_run b bs h fresh at =
       | inr f1 ↦ elim (cases_Bool (is_blank b)) [
         | inl t2 ↦ rw (f1, t2) (h.blank (fresh && is_indent b) at (suc at))
         | inr f2 ↦ elim (cases_Bool (fresh && (b == 35))) [
-          | inl t3 ↦ rw (f1, f2, t3) (h.hash (d.Blank false) at (suc at) ∙ hash_begins at bs (is_layout_pragma (take (line_len bs) bs)))
+          | inl t3 ↦ rw (f1, f2, t3) (hash_begins at bs h (is_refused (take (line_len bs) bs)))
           | inr f3 ↦ elim (cases_Bool (starts_name b)) [
-            | inl t4 ↦ rw (f1, f2, f3, t4) (h.name at (suc at))
+            | inl t4 ↦ rw (f1, f2, f3, t4) (name_begins at bs h ((b == 95) && bytes_eq (take (name_len bs) bs) (codes "Pragma")))
             | inr f4 ↦ elim (cases_Bool (is_digit b)) [
               | inl t5 ↦ rw (f1, f2, f3, f4, t5) (h.number false at (suc at))
               | inr f5 ↦ elim (cases_Bool (is_mark b)) [
@@ -239,9 +196,9 @@ begin_run b bs h fresh at =
 
 -- ---- punctuators
 
-after_one_tokens : (before : Option Token) (a start at b : ℕ) (go : State → Answer) → after (after_one before a start at b) go ≡ with_ended before (after (after_one None a start at b) go)
+after_one_tokens : (before : Option Token) (a start at b : ℕ) (rest : List ℕ) (go : State → Answer) → after (after_one before a start at b rest) go ≡ with_ended before (after (after_one None a start at b rest) go)
 unfolding after_one
-after_one_tokens before a start at b go =
+after_one_tokens before a start at b rest go =
     elim (cases_Bool ((a == 46) && is_digit b)) [
       | inl t1 ↦ rw t1 refl
       | inr f1 ↦ elim (cases_Bool ((a == 47) && (b == 47))) [
@@ -252,7 +209,7 @@ after_one_tokens before a start at b go =
             | inl t4 ↦ rw (f1, f2, f3, t4) (failed_tokens before (BadByte start))
             | inr f4 ↦ elim (cases_Bool (is_double a b || ((a == 46) && (b == 46)))) [
               | inl t5 ↦ rw (f1, f2, f3, f4, t5) refl
-              | inr f5 ↦ rw (f1, f2, f3, f4, f5) (begun_tokens before (Some (token kind.Punct start at)) (begin false at b) go ∙ ap (with_ended before) (sym (begun_tokens None (Some (token kind.Punct start at)) (begin false at b) go)))
+              | inr f5 ↦ rw (f1, f2, f3, f4, f5) (begun_tokens before (Some (token kind.Punct start at)) (begin false at b rest) go ∙ ap (with_ended before) (sym (begun_tokens None (Some (token kind.Punct start at)) (begin false at b rest) go)))
             ]
           ]
         ]
@@ -299,7 +256,7 @@ one_step b bs h a start one =
               | inl t5 ↦ rw (f1, f2, f3, f4, t5) (h.two a b start t5)
               | inr f5 ↦ elim (cases_Bool ((a == 46) && (b == 46))) [
                 | inl t6 ↦ rw (f1, f2, f3, f4, f5, t6) (two_dots a b bs h start t6)
-                | inr f6 ↦ rw (f1, f2, f3, f4, f5, f6, only_one a b bs one f5 f6, add-zero) (begun_tokens None (Some (token kind.Punct start (suc start))) (begin false (suc start) b) (λ s. run s (suc (suc start)) bs) ∙ ap (with_token (token kind.Punct start (suc start))) (begin_run b bs h false (suc start)))
+                | inr f6 ↦ rw (f1, f2, f3, f4, f5, f6, only_one a b bs one f5 f6, add-zero) (begun_tokens None (Some (token kind.Punct start (suc start))) (begin false (suc start) b bs) (λ s. run s (suc (suc start)) bs) ∙ ap (with_token (token kind.Punct start (suc start))) (begin_run b bs h false (suc start)))
               ]
             ]
           ]
@@ -326,7 +283,7 @@ two_step b bs h a c start two =
       | inl t1 ↦ let e : suc start + 2 ≡ suc (suc start) + 1 = omega arith in rw (t1, e) (ap (with_token (token kind.Punct start (suc (suc start) + 1))) (h.blank false (suc (suc start)) (suc (suc (suc start)))))
       | inr f1 ↦
           let e : suc start + 1 ≡ suc (suc start) = omega arith in
-          rw (f1, two, e) (begun_tokens (Some (token kind.Punct start (suc (suc start)))) None (begin false (suc (suc start)) b) (λ s. run s (suc (suc (suc start))) bs) ∙ ap (with_token (token kind.Punct start (suc (suc start)))) (begin_run b bs h false (suc (suc start))))
+          rw (f1, two, e) (begun_tokens (Some (token kind.Punct start (suc (suc start)))) None (begin false (suc (suc start)) b bs) (λ s. run s (suc (suc (suc start))) bs) ∙ ap (with_token (token kind.Punct start (suc (suc start)))) (begin_run b bs h false (suc (suc start))))
     ]
 
 dots_nil : (start : ℕ) → run (at_mode (m.Two 46 46) start) (suc (suc start)) [] ≡ piece_then start (punct_piece (punct_len (46 ∷ 46 ∷ []))) (λ n fresh. tokens_from n fresh (suc start) (46 ∷ []))
@@ -345,7 +302,7 @@ dots_step b bs h start =
       | inr f1 ↦
           let single : is_double 46 46 ≡ false = no_dots in
           let one : is_single 46 ≡ true = dot_is in
-          rw (f1, single, one, add-zero, add-one) (after_one_tokens (Some (token kind.Punct start (suc start))) 46 (suc start) (suc (suc start)) b (λ s. run s (suc (suc (suc start))) bs)
+          rw (f1, single, one, add-zero, add-one) (after_one_tokens (Some (token kind.Punct start (suc start))) 46 (suc start) (suc (suc start)) b bs (λ s. run s (suc (suc (suc start))) bs)
           ∙ ap (with_token (token kind.Punct start (suc start))) (one_step b bs h 46 (suc start) one ∙ sym (dot_begins (suc start) (b ∷ bs))))
     ]
 
@@ -369,7 +326,6 @@ runs [] = record {
   quoted = λ mark escaped start at. quoted_nil mark escaped start at;
   comment = λ star start at. refl;
   line = λ start at. refl;
-  hash = λ words start at. hash_nil words start at;
   one = λ a start h. one_nil a start h;
   two = λ a c start h. two_nil a c start h;
   dots = λ start. dots_nil start;
@@ -381,7 +337,6 @@ runs (b ∷ bs) = let h = runs bs in record {
   quoted = λ mark escaped start at. quoted_step b bs h mark escaped start at;
   comment = λ star start at. comment_step b bs h star start at;
   line = λ start at. line_step b bs h start at;
-  hash = λ words start at. hash_step b bs h words start at;
   one = λ a start is. one_step b bs h a start is;
   two = λ a c start is. two_step b bs h a c start is;
   dots = λ start. dots_step b bs h start;

@@ -1,13 +1,14 @@
 -- The tokens of a text stand in it in order.
 use Rattle.std.proofs.Common.{◌≡◌, ℕ, zero, suc, ◌+◌, ◌≤◌, Bool, true, false, List, [], ◌∷◌, length, Option, Some, None, Result, Ok, Err, IfOk, subst, arith, inl, inr, ◌==◌, ◌&&◌}
 use Rattle.std.proofs.lemmas.Bool.{cases_Bool}
-use Rattle.std.specs.Prelude.{option_map, IfSome, take}
+use Rattle.std.specs.Prelude.{option_map, IfSome, take, codes}
+use Rattle.std.specs.Str.{bytes_eq}
 use Rattle.cx_base.specs.declared.token.TokenKind.{TokenKind}
 use Rattle.cx_base.specs.declared.token.Token.{Token}
 use Rattle.cx_lex.specs.declared.fault.LexFault.{LexFault}
 use Rattle.cx_lex.specs.Bytes.{is_blank, starts_name, is_digit, in_name, is_exponent, in_number, is_mark, is_single, is_double, is_triple, is_digraph}
-use Rattle.cx_lex.specs.Directives.{is_layout_pragma}
-use Rattle.cx_lex.specs.Lexed.{name_len, number_len, line_len, quoted_len, comment_len, punct_len, next_is, rest_of, Piece, passed, taken, stopped, mark_kind, quoted_piece, comment_piece, punct_piece, hash_piece, other_piece, piece_at, token, with_token, piece_then, tokens_from, lexed, Answers}
+use Rattle.cx_lex.specs.Directives.{is_refused}
+use Rattle.cx_lex.specs.Lexed.{name_len, number_len, line_len, quoted_len, comment_len, punct_len, next_is, rest_of, Piece, passed, taken, stopped, mark_kind, quoted_piece, comment_piece, punct_piece, hash_piece, name_piece, other_piece, piece_at, token, with_token, piece_then, tokens_from, lexed, Answers}
 use Rattle.cx_lex.specs.Order.{InOrder}
 
 -- ---- no piece is longer than what is left
@@ -80,7 +81,10 @@ comment_bound false [] e = absurd cc
 comment_bound p (c ∷ cs) e = comment_after c cs (comment_len false cs) (comment_within false cs)
 
 hash_within : (bs : List ℕ) → Within (hash_piece bs) bs
-hash_within bs = elim (cases_Bool (is_layout_pragma (take (line_len bs) bs))) [ inl on ↦ rw on tt | inr off ↦ rw off (line_within bs) ]
+hash_within bs = elim (cases_Bool (is_refused (take (line_len bs) bs))) [ inl on ↦ rw on tt | inr off ↦ rw off (line_within bs) ]
+
+name_piece_within : (b : ℕ) (bs : List ℕ) → Within (name_piece b bs) bs
+name_piece_within b bs = elim (cases_Bool ((b == 95) && bytes_eq (take (name_len bs) bs) (codes "Pragma"))) [ inl on ↦ rw on tt | inr off ↦ rw off (name_within bs) ]
 
 other_within : (b : ℕ) (bs : List ℕ) → Within (other_piece b bs) bs
 unfolding other_piece
@@ -108,7 +112,7 @@ piece_within fresh b bs =
         | inr f2 ↦ elim (cases_Bool (fresh && (b == 35))) [
           | inl t3 ↦ rw (f1, f2, t3) (hash_within bs)
           | inr f3 ↦ elim (cases_Bool (starts_name b)) [
-            | inl t4 ↦ rw (f1, f2, f3, t4) (name_within bs)
+            | inl t4 ↦ rw (f1, f2, f3, t4) (name_piece_within b bs)
             | inr f4 ↦ elim (cases_Bool (is_digit b)) [
               | inl t5 ↦ rw (f1, f2, f3, f4, t5) (number_within false bs)
               | inr f5 ↦ elim (cases_Bool (is_mark b)) [

@@ -3,13 +3,14 @@ use Rattle.std.proofs.Common.{◌≡◌, ℕ, zero, suc, ◌+◌, ◌≤◌, max
 use Rattle.std.proofs.lemmas.List.{take-append-drop, length-take-le}
 use Rattle.std.proofs.lemmas.Bool.{cases_Bool, eqb-true}
 use Rattle.std.proofs.lemmas.Bool.Decides.{nat_tests}
-use Rattle.std.specs.Prelude.{option_map, IfSome}
+use Rattle.std.specs.Prelude.{option_map, IfSome, codes}
+use Rattle.std.specs.Str.{bytes_eq}
 use Rattle.cx_base.specs.declared.token.TokenKind.{TokenKind}
 use Rattle.cx_base.specs.declared.token.Token.{Token}
 use Rattle.cx_lex.specs.declared.fault.LexFault.{LexFault}
 use Rattle.cx_lex.specs.Bytes.{is_blank, starts_name, is_digit, is_mark, is_digraph}
-use Rattle.cx_lex.specs.Directives.{is_layout_pragma}
-use Rattle.cx_lex.specs.Lexed.{line_len, quoted_len, comment_len, punct_len, next_is, rest_of, Piece, passed, taken, stopped, mark_kind, quoted_piece, comment_piece, punct_piece, hash_piece, other_piece, piece_at, token, with_token, piece_then, tokens_from, lexed, Answers}
+use Rattle.cx_lex.specs.Directives.{is_refused}
+use Rattle.cx_lex.specs.Lexed.{name_len, line_len, quoted_len, comment_len, punct_len, next_is, rest_of, Piece, passed, taken, stopped, mark_kind, quoted_piece, comment_piece, punct_piece, hash_piece, name_piece, other_piece, piece_at, token, with_token, piece_then, tokens_from, lexed, Answers}
 use Rattle.cx_lex.specs.Pieces.{IsOneLine, IsPassed, blank, comment, remark, directive, IsCut, ended, over, kept}
 use Rattle.cx_lex.proofs.Order.{Within, piece_within}
 
@@ -34,7 +35,7 @@ one_line (b ∷ bs) = elim (cases_Bool (b == 10)) [ inl on ↦ rw on tt | inr of
 
 directive_line : (b : ℕ) (bs : List ℕ) → (b == 35) ≡ true → Passes (hash_piece bs) b bs
 directive_line b bs e =
-    elim (cases_Bool (is_layout_pragma (take (line_len bs) bs))) [
+    elim (cases_Bool (is_refused (take (line_len bs) bs))) [
       | inl on ↦ rw on tt
       | inr off ↦ rw off (subst (λ (x : ℕ). IsPassed (x ∷ take (line_len bs) bs)) (sym (eqb-true b 35 e)) (directive (take (line_len bs) bs) (one_line bs)))
     ]
@@ -103,6 +104,9 @@ punct_passes : (n b : ℕ) (bs : List ℕ) → Passes (punct_piece n) b bs
 punct_passes zero b bs = tt
 punct_passes (suc n) b bs = tt
 
+name_passes : (b : ℕ) (bs : List ℕ) → Passes (name_piece b bs) b bs
+name_passes b bs = elim (cases_Bool ((b == 95) && bytes_eq (take (name_len bs) bs) (codes "Pragma"))) [ inl on ↦ rw on tt | inr off ↦ rw off tt ]
+
 other_passes : (b : ℕ) (bs : List ℕ) → Passes (other_piece b bs) b bs
 unfolding other_piece
 other_passes b bs =
@@ -129,7 +133,7 @@ piece_passes fresh b bs =
         | inr f2 ↦ elim (cases_Bool (fresh && (b == 35))) [
           | inl t3 ↦ rw (f1, f2, t3) (directive_line b bs (and_true fresh (b == 35) t3).1)
           | inr f3 ↦ elim (cases_Bool (starts_name b)) [
-            | inl t4 ↦ rw (f1, f2, f3, t4) tt
+            | inl t4 ↦ rw (f1, f2, f3, t4) (name_passes b bs)
             | inr f4 ↦ elim (cases_Bool (is_digit b)) [
               | inl t5 ↦ rw (f1, f2, f3, f4, t5) tt
               | inr f5 ↦ elim (cases_Bool (is_mark b)) [

@@ -32,9 +32,9 @@ in_number exponent b = (in_name b && not (b == 36)) || (b == 46) || (exponent &&
 unfoldable pub is_mark : ℕ → Bool
 is_mark b = (b == 34) || (b == 39)
 
--- punctuators of one byte (C11 6.4.6): ! # % & ( ) * + , - . / : ; < = > ? [ ] ^ { | } ~
+-- punctuators of one byte (C11 6.4.6), but for #, which preprocessing takes away (C11 5.1.1.2): ! % & ( ) * + , - . / : ; < = > ? [ ] ^ { | } ~
 unfoldable pub is_single : ℕ → Bool
-is_single a = (a == 33) || (a == 35) || (nat_le 37 a && nat_le a 38) || (nat_le 40 a && nat_le a 47) || (nat_le 58 a && nat_le a 63) || (a == 91) || (nat_le 93 a && nat_le a 94) || (nat_le 123 a && nat_le a 126)
+is_single a = (a == 33) || (nat_le 37 a && nat_le a 38) || (nat_le 40 a && nat_le a 47) || (nat_le 58 a && nat_le a 63) || (a == 91) || (nat_le 93 a && nat_le a 94) || (nat_le 123 a && nat_le a 126)
 
 -- of two: -> ++ -- << >> && || <= >= == != += -= *= /= %= &= |= ^=
 unfoldable pub is_double : ℕ → ℕ → Bool

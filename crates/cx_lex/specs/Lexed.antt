@@ -1,5 +1,6 @@
 -- The tokens of a text: at each place that is in no piece before it, the longest piece that begins there (C11 6.4p4).
-use Rattle.std.specs.Prelude.{◌≡◌, ℕ, zero, suc, ◌+◌, max, Bool, true, false, ◌==◌, ◌&&◌, if◌then◌else◌, List, [], ◌∷◌, take, Option, Some, None, Result, Ok, Err, option_map}
+use Rattle.std.specs.Prelude.{◌≡◌, ℕ, zero, suc, ◌+◌, max, Bool, true, false, ◌==◌, ◌&&◌, if◌then◌else◌, List, [], ◌∷◌, take, codes, Option, Some, None, Result, Ok, Err, option_map}
+use Rattle.std.specs.Str.{bytes_eq}
 use Rattle.std.proofs.Math.Nat.{le-max_left}
 use Rattle.cx_base.specs.declared.span.Span.{Span}
 use Rattle.cx_base.specs.declared.token.TokenKind.{TokenKind}
@@ -8,7 +9,7 @@ use Rattle.cx_base.specs.declared.token.Token.{Token}
 use Rattle.cx_lex.specs.declared.fault.LexFault.{LexFault}
 use Rattle.cx_lex.specs.declared.fault.LexFault.TheVariants.{OpenComment, OpenText, BadByte, NoMemory}
 use Rattle.cx_lex.specs.Bytes.{is_blank, is_indent, starts_name, is_digit, in_name, is_exponent, in_number, is_mark, is_single, is_double, is_triple, is_digraph}
-use Rattle.cx_lex.specs.Directives.{is_layout_pragma}
+use Rattle.cx_lex.specs.Directives.{is_refused}
 
 -- how many bytes at the front go on with a name
 abbrev pub name_len : List ℕ → ℕ
@@ -79,9 +80,9 @@ abbrev pub punct_piece : ℕ → Piece
 punct_piece zero = stopped BadByte
 punct_piece (suc n) = taken kind.Punct n
 
--- the rest of a line after the # that begins it: passed over, but where it changes layouts
+-- the rest of a line after the # that begins it
 abbrev pub hash_piece : List ℕ → Piece
-hash_piece bs = if is_layout_pragma (take (line_len bs) bs) then stopped BadByte else passed (line_len bs) false
+hash_piece bs = if is_refused (take (line_len bs) bs) then stopped BadByte else passed (line_len bs) false
 
 -- what begins with a byte that begins neither a name nor a literal, nor a number by a digit
 unfoldable pub other_piece : ℕ → List ℕ → Piece
@@ -92,13 +93,17 @@ other_piece b bs =
     else (if next_is (is_digraph b) bs then stopped BadByte
     else punct_piece (punct_len (b ∷ bs)))))
 
+-- a name, but for the operator _Pragma, of which a preprocessor makes a line (C11 6.10.9)
+abbrev pub name_piece : ℕ → List ℕ → Piece
+name_piece b bs = if (b == 95) && bytes_eq (take (name_len bs) bs) (codes "Pragma") then stopped BadByte else taken kind.Name (name_len bs)
+
 -- fresh: the line has had only spaces and tabs, and did not begin inside a piece
 abbrev pub piece_at : Bool → ℕ → List ℕ → Piece
 piece_at fresh b bs =
     if b == 10 then passed 0 true
     else (if is_blank b then passed 0 (fresh && is_indent b)
     else (if fresh && (b == 35) then hash_piece bs
-    else (if starts_name b then taken kind.Name (name_len bs)
+    else (if starts_name b then name_piece b bs
     else (if is_digit b then taken kind.Number (number_len false bs)
     else (if is_mark b then quoted_piece (mark_kind b) (quoted_len b false bs)
     else other_piece b bs)))))

@@ -1,69 +1,17 @@
 -- The same reading one byte after the other, with a mode: what the code does.
-use Rattle.std.specs.Prelude.{ℕ, suc, ◌+◌, Bool, true, false, ◌==◌, ◌&&◌, ◌||◌, if◌then◌else◌, List, [], ◌∷◌, ◌++◌, slice_get, codes, Option, Some, None, Result, Ok, Err}
+use Rattle.std.specs.Prelude.{ℕ, suc, ◌+◌, Bool, true, false, ◌==◌, ◌&&◌, ◌||◌, if◌then◌else◌, List, [], ◌∷◌, ◌++◌, take, codes, Option, Some, None, Result, Ok, Err}
 use Rattle.cx_base.specs.declared.token.TokenKind.TheVariants as kind
 use Rattle.cx_base.specs.declared.token.Token.{Token}
 use Rattle.cx_lex.specs.declared.fault.LexFault.{LexFault}
 use Rattle.cx_lex.specs.declared.fault.LexFault.TheVariants.{OpenComment, OpenText, BadByte}
-use Rattle.cx_lex.specs.declared.mode.Word.{Word}
-use Rattle.cx_lex.specs.declared.mode.Word.TheVariants as w
-use Rattle.cx_lex.specs.declared.mode.Directive.{Directive}
-use Rattle.cx_lex.specs.declared.mode.Directive.TheVariants as d
 use Rattle.cx_lex.specs.declared.mode.Mode.{Mode}
 use Rattle.cx_lex.specs.declared.mode.Mode.TheVariants as m
 use Rattle.cx_lex.specs.declared.mode.State.{State}
 use Rattle.cx_lex.specs.declared.mode.Turn.{Turn}
 use Rattle.cx_lex.specs.Bytes.{is_blank, is_indent, starts_name, is_digit, in_name, is_exponent, in_number, is_mark, is_single, is_double, is_triple, is_digraph}
-use Rattle.cx_lex.specs.Lexed.{mark_kind, token, with_token}
-
--- ---- layout pragmas
-
-abbrev pub text_of : Word → List ℕ
-text_of w.Pragma = codes "pragma"
-text_of w.Pack = codes "pack"
-text_of w.ScalarStorageOrder = codes "scalar_storage_order"
-
-abbrev pub is_pragma : Word → Bool
-is_pragma w.Pragma = true
-is_pragma w.Pack = false
-is_pragma w.ScalarStorageOrder = false
-
--- a byte where no word has begun, or none after `pragma`
-abbrev pub first_letter : Bool → ℕ → Directive
-first_letter second b =
-    if is_blank b then d.Blank second
-    else (if b == 47 then d.Slash second
-    else (if b == 112 then d.Word (if second then w.Pack else w.Pragma) 1
-    else (if second && (b == 115) then d.Word w.ScalarStorageOrder 1 else d.Other)))
-
--- a byte that does not go on with the word before it
-abbrev pub after_word : Word → ℕ → Directive
-after_word word b = if is_pragma word then first_letter true b else d.Layout
-
--- a byte after so many of a word, where the word has this letter there
-abbrev pub next_letter : Option ℕ → Word → ℕ → ℕ → Directive
-next_letter (Some c) word k b = if b == c then d.Word word (k + 1) else d.Other
-next_letter None word k b = if in_name b then d.Other else after_word word b
-
-unfoldable pub follow : Directive → ℕ → Directive
-follow (d.Blank second) b = first_letter second b
-follow (d.Slash second) b = if b == 42 then d.Comment second false else d.Other
-follow (d.Comment second star) b = if star && (b == 47) then d.Blank second else d.Comment second (b == 42)
-follow (d.Word word k) b = next_letter (slice_get (text_of word) k) word k b
-follow d.Layout b = d.Layout
-follow d.Other b = d.Other
-
-abbrev pub ends_word : Option ℕ → Word → Bool
-ends_word (Some c) word = false
-ends_word None word = if is_pragma word then false else true
-
--- the line is a layout pragma where it ends here
-unfoldable pub is_layout : Directive → Bool
-is_layout (d.Blank second) = false
-is_layout (d.Slash second) = false
-is_layout (d.Comment second star) = false
-is_layout (d.Word word k) = ends_word (slice_get (text_of word) k) word
-is_layout d.Layout = true
-is_layout d.Other = false
+use Rattle.cx_lex.specs.Lexed.{name_len, line_len, mark_kind, token, with_token}
+use Rattle.cx_lex.specs.Directives.{is_refused}
+use Rattle.std.specs.Str.{bytes_eq}
 
 -- ---- a byte
 
@@ -73,13 +21,13 @@ at_mode mode start = record { mode = mode; start = start }
 abbrev pub goes : Mode → ℕ → Result Turn LexFault
 goes mode start = Ok (record { one = None; two = None; next = at_mode mode start })
 
--- what a byte begins
-unfoldable pub begin : Bool → ℕ → ℕ → Result State LexFault
-begin fresh at b =
+-- what a byte begins that has these bytes after it
+unfoldable pub begin : Bool → ℕ → ℕ → List ℕ → Result State LexFault
+begin fresh at b rest =
     if b == 10 then Ok (at_mode (m.Blank true) at)
     else (if is_blank b then Ok (at_mode (m.Blank (fresh && is_indent b)) at)
-    else (if fresh && (b == 35) then Ok (at_mode (m.Hash (d.Blank false)) at)
-    else (if starts_name b then Ok (at_mode m.Name at)
+    else (if fresh && (b == 35) then (if is_refused (take (line_len rest) rest) then Err (BadByte at) else Ok (at_mode m.Line at))
+    else (if starts_name b then (if (b == 95) && bytes_eq (take (name_len rest) rest) (codes "Pragma") then Err (BadByte at) else Ok (at_mode m.Name at))
     else (if is_digit b then Ok (at_mode (m.Number false) at)
     else (if is_mark b then Ok (at_mode (m.Quoted b false) at)
     else (if is_single b then Ok (at_mode (m.One b) at)
@@ -90,20 +38,20 @@ begun one two (Ok s) = Ok (record { one = one; two = two; next = s })
 begun one two (Err f) = Err f
 
 -- a punctuator of one byte, and the next byte
-unfoldable pub after_one : Option Token → ℕ → ℕ → ℕ → ℕ → Result Turn LexFault
-after_one before a start at b =
+unfoldable pub after_one : Option Token → ℕ → ℕ → ℕ → ℕ → List ℕ → Result Turn LexFault
+after_one before a start at b rest =
     if (a == 46) && is_digit b then Ok (record { one = before; two = None; next = at_mode (m.Number false) start })
     else (if (a == 47) && (b == 47) then Ok (record { one = before; two = None; next = at_mode m.Line start })
     else (if (a == 47) && (b == 42) then Ok (record { one = before; two = None; next = at_mode (m.Comment false) start })
     else (if is_digraph a b then Err (BadByte start)
     else (if is_double a b || ((a == 46) && (b == 46)) then Ok (record { one = before; two = None; next = at_mode (m.Two a b) start })
-    else begun before (Some (token kind.Punct start at)) (begin false at b)))))
+    else begun before (Some (token kind.Punct start at)) (begin false at b rest)))))
 
-unfoldable pub after_two : ℕ → ℕ → ℕ → ℕ → ℕ → Result Turn LexFault
-after_two a c start at b =
+unfoldable pub after_two : ℕ → ℕ → ℕ → ℕ → ℕ → List ℕ → Result Turn LexFault
+after_two a c start at b rest =
     if is_triple a c b then Ok (record { one = Some (token kind.Punct start (at + 1)); two = None; next = at_mode (m.Blank false) at })
-    else (if is_double a c then begun (Some (token kind.Punct start at)) None (begin false at b)
-    else after_one (Some (token kind.Punct start (start + 1))) c (start + 1) at b)
+    else (if is_double a c then begun (Some (token kind.Punct start at)) None (begin false at b rest)
+    else after_one (Some (token kind.Punct start (start + 1))) c (start + 1) at b rest)
 
 unfoldable pub in_quotes : ℕ → Bool → ℕ → ℕ → ℕ → Result Turn LexFault
 in_quotes mark true start at b = goes (m.Quoted mark false) start
@@ -111,21 +59,15 @@ in_quotes mark false start at b =
     if b == mark then Ok (record { one = Some (token (mark_kind mark) start (at + 1)); two = None; next = at_mode (m.Blank false) at })
     else (if b == 10 then Err (OpenText start) else goes (m.Quoted mark (b == 92)) start)
 
-unfoldable pub in_hash : Directive → ℕ → ℕ → ℕ → Result Turn LexFault
-in_hash words start at b =
-    if b == 10 then (if is_layout words then Err (BadByte start) else goes (m.Blank true) at)
-    else goes (m.Hash (follow words b)) start
-
-unfoldable pub turn : Mode → ℕ → ℕ → ℕ → Result Turn LexFault
-turn (m.Blank fresh) start at b = begun None None (begin fresh at b)
-turn m.Name start at b = if in_name b then goes m.Name start else begun (Some (token kind.Name start at)) None (begin false at b)
-turn (m.Number exponent) start at b = if in_number exponent b then goes (m.Number (is_exponent b)) start else begun (Some (token kind.Number start at)) None (begin false at b)
-turn (m.Quoted mark escaped) start at b = in_quotes mark escaped start at b
-turn (m.One a) start at b = after_one None a start at b
-turn (m.Two a c) start at b = after_two a c start at b
-turn (m.Comment star) start at b = if star && (b == 47) then goes (m.Blank false) at else goes (m.Comment (b == 42)) start
-turn m.Line start at b = if b == 10 then goes (m.Blank true) at else goes m.Line start
-turn (m.Hash words) start at b = in_hash words start at b
+unfoldable pub turn : Mode → ℕ → ℕ → ℕ → List ℕ → Result Turn LexFault
+turn (m.Blank fresh) start at b rest = begun None None (begin fresh at b rest)
+turn m.Name start at b rest = if in_name b then goes m.Name start else begun (Some (token kind.Name start at)) None (begin false at b rest)
+turn (m.Number exponent) start at b rest = if in_number exponent b then goes (m.Number (is_exponent b)) start else begun (Some (token kind.Number start at)) None (begin false at b rest)
+turn (m.Quoted mark escaped) start at b rest = in_quotes mark escaped start at b
+turn (m.One a) start at b rest = after_one None a start at b rest
+turn (m.Two a c) start at b rest = after_two a c start at b rest
+turn (m.Comment star) start at b rest = if star && (b == 47) then goes (m.Blank false) at else goes (m.Comment (b == 42)) start
+turn m.Line start at b rest = if b == 10 then goes (m.Blank true) at else goes m.Line start
 
 -- the tokens that an end leaves
 unfoldable pub end : Mode → ℕ → ℕ → Result (List Token) LexFault
@@ -137,7 +79,6 @@ end (m.One a) start at = Ok (token kind.Punct start at ∷ [])
 end (m.Two a c) start at = if is_double a c then Ok (token kind.Punct start at ∷ []) else Ok (token kind.Punct start (start + 1) ∷ token kind.Punct (start + 1) at ∷ [])
 end (m.Comment star) start at = Err (OpenComment start)
 end m.Line start at = Ok []
-end (m.Hash words) start at = if is_layout words then Err (BadByte start) else Ok []
 
 -- how many bytes of its piece a mode has at least
 abbrev pub least : Mode → ℕ
@@ -149,7 +90,6 @@ least (m.One a) = 1
 least (m.Two a c) = 2
 least (m.Comment star) = 0
 least m.Line = 0
-least (m.Hash words) = 0
 
 -- ---- all bytes
 
@@ -163,7 +103,7 @@ after (Err f) go = Err f
 
 unfoldable pub run : State → ℕ → List ℕ → Result (List Token) LexFault
 run s at [] = end s.mode s.start at
-run s at (b ∷ bs) = after (turn s.mode s.start at b) (λ s. run s (suc at) bs)
+run s at (b ∷ bs) = after (turn s.mode s.start at b bs) (λ s. run s (suc at) bs)
 
 abbrev pub listed : Option Token → List Token
 listed None = []

@@ -65,13 +65,12 @@ pub fn is_mark(b: u8) -> bool
     b == b'"' || b == b'\''
 }
 
-/// A punctuator of one byte (C11 6.4.6).
+/// A punctuator of one byte (C11 6.4.6), but for `#`.
 #[tactic(auto, using(std::proofs::lemmas::Bool::Decides::nat_tests), unfolding(crate::specs::Bytes::is_single))]
 pub fn is_single(a: u8) -> bool
     ensures { result ≡ spec.is_single a }
 {
     a == b'!'
-        || a == b'#'
         || b'%' <= a && a <= b'&'
         || b'(' <= a && a <= b'/'
         || b':' <= a && a <= b'?'

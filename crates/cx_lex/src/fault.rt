@@ -14,8 +14,10 @@ pub enum LexFault {
     /// closing mark on its line.
     #[error("the quotation mark at byte {0} has no partner on its line")]
     OpenText(u32),
-    /// No token begins with this byte, or a digraph does (C11 6.4.6), or it is the `#` of a line
-    /// that changes layouts: `#pragma pack` or `#pragma scalar_storage_order`.
+    /// No token begins with this byte, or a digraph does (C11 6.4.6), or the name `_Pragma`
+    /// (C11 6.10.9), or it is a `#` that begins no line, or the `#` of a line that is not passed
+    /// over: a pragma that may change layouts, or a line that its comment or its backslash would
+    /// join to the next.
     #[error("the byte at {0} begins no token")]
     BadByte(u32),
     /// The allocator refused.

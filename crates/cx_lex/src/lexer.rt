@@ -22,7 +22,7 @@ fn read(alloc: Global, bytes: &[u8]) -> Result<List<Token>, LexFault>
         start: 0,
     };
     for (i, b) in bytes.iter().enumerate() {
-        let turn = step(state, i as u32, *b)?;
+        let turn = step(state, i as u32, *b, &bytes[i + 1..])?;
         add(&mut tokens, turn.one)?;
         add(&mut tokens, turn.two)?;
         state = turn.next;
@@ -30,12 +30,17 @@ fn read(alloc: Global, bytes: &[u8]) -> Result<List<Token>, LexFault>
     finish(tokens, state, bytes.len() as u32)
 }
 
-/// The tokens of a text of at most 2^24 bytes, in one pass.
+/// The tokens of a text of at most 2^24 bytes, in linear time.
 ///
 /// At each place that is in no piece before it, the longest piece that begins there is taken
 /// (C11 6.4p4): a token, or white space, a comment or a line that begins with `#`, which are passed
 /// over. Such a line begins neither inside a comment nor inside a token; it and a comment that
-/// begins with `//` end at the newline, also after a backslash. Since this is a function of the
+/// begins with `//` end at the newline, also after a backslash. A `#` line is not passed over where
+/// a `/*` of it has no `*/` on it, where its last byte other than white space is a backslash, and
+/// where its first word is `pragma` (C11 6.10.6), unless the next words are `once`, `STDC`,
+/// `message`, `GCC` with one of `diagnostic`, `visibility`, `system_header`, `poison`, `warning`,
+/// `error`, `dependency`, `unroll` and `ivdep`, or `clang` with `diagnostic` or `system_header`:
+/// other pragmas may change layouts. Words are separated by white space and comments. Since this is a function of the
 /// text, a text has at most one reading.
 ///
 /// The tokens stand in the text in order, no two meet, and each byte is in exactly one token or in

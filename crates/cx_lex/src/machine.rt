@@ -1,15 +1,16 @@
-ghost use Rattle.std.specs.Prelude.{◌≡◌, ◌<◌, ◌≤◌, ◌^◌, ◌+◌, ◌++◌, Ok, Some, None, IfOk, OnOk};
+ghost use Rattle.std.specs.Prelude.{◌≡◌, ◌<◌, ◌≤◌, ◌^◌, ◌+◌, ◌++◌, ◌==◌, ◌&&◌, take, length, codes, Ok, Some, None, IfOk, OnOk};
 ghost use Rattle.cx_base.specs.declared.token.TokenKind.TheVariants as kind;
 ghost use Rattle.cx_lex.specs.Machine as spec;
-ghost use Rattle.cx_lex.specs.Lexed.{Answers, mark_kind as kind_of, token as token_of};
+ghost use Rattle.cx_lex.specs.Lexed.{Answers, name_len as len_of_name, mark_kind as kind_of, token as token_of};
+ghost use Rattle.std.specs.Str.{bytes_eq};
 
 use crate::bytes::{
     in_name, in_number, is_blank, is_digit, is_digraph, is_double, is_exponent, is_indent, is_mark,
     is_single, is_triple, starts_name,
 };
-use crate::directive::{follow, is_layout};
+use crate::directive::{is_refused, is_same};
 use crate::fault::LexFault;
-use crate::mode::{Directive, Mode, State, Turn};
+use crate::mode::{Mode, State, Turn};
 use cx_base::{List, NoMemory, Span, Token, TokenKind};
 
 /// The token between two places.
@@ -23,10 +24,35 @@ fn token(kind: TokenKind, first: u32, past: u32) -> Token
     }
 }
 
-/// The mode that a byte at a place begins which is in no piece before it.
+/// How many bytes at the front go on with a name.
+fn name_len(text: &[u8]) -> usize
+    ensures value { result ≡ len_of_name text.now }
+    ensures within { result ≤ length text.now }
+{
+    let mut rest = text;
+    let mut n = 0;
+    while let [b, after @ ..] = rest {
+        if !in_name(*b) {
+            return n;
+        }
+        n += 1;
+        rest = after;
+    }
+    n
+}
+
+/// Whether a byte that begins a name begins `_Pragma`.
+fn begins_operator(b: u8, rest: &[u8]) -> bool
+    ensures { result ≡ ((b == 95) && bytes_eq (take (len_of_name rest.now) rest.now) (codes "Pragma")) }
+{
+    b == b'_' && is_same(&rest[..name_len(rest)], b"Pragma")
+}
+
+/// The mode that a byte at a place begins which is in no piece before it, and has these bytes
+/// after it.
 #[tactic(auto, unfolding(crate::specs::Machine::begin))]
-fn begin(fresh: bool, at: u32, b: u8) -> Result<State, LexFault>
-    ensures value { result ≡ spec.begin fresh at b }
+fn begin(fresh: bool, at: u32, b: u8, rest: &[u8]) -> Result<State, LexFault>
+    ensures value { result ≡ spec.begin fresh at b rest.now }
     ensures within { IfOk result (λ s. s.start + spec.least s.mode ≤ at + 1) }
 {
     let mode = if b == b'\n' {
@@ -34,8 +60,14 @@ fn begin(fresh: bool, at: u32, b: u8) -> Result<State, LexFault>
     } else if is_blank(b) {
         Mode::Blank(fresh && is_indent(b))
     } else if fresh && b == b'#' {
-        Mode::Hash(Directive::Blank(false))
+        if is_refused(rest) {
+            return Err(LexFault::BadByte(at));
+        }
+        Mode::Line
     } else if starts_name(b) {
+        if begins_operator(b, rest) {
+            return Err(LexFault::BadByte(at));
+        }
         Mode::Name
     } else if is_digit(b) {
         Mode::Number(false)
@@ -56,11 +88,12 @@ fn begun(
     fresh: bool,
     at: u32,
     b: u8,
+    rest: &[u8],
 ) -> Result<Turn, LexFault>
-    ensures value { result ≡ spec.begun one two (spec.begin fresh at b) }
+    ensures value { result ≡ spec.begun one two (spec.begin fresh at b rest.now) }
     ensures within { IfOk result (λ t. t.next.start + spec.least t.next.mode ≤ at + 1) }
 {
-    let next = begin(fresh, at, b)?;
+    let next = begin(fresh, at, b, rest)?;
     Ok(Turn { one, two, next })
 }
 
@@ -77,9 +110,16 @@ fn goes(one: Option<Token>, mode: Mode, start: u32) -> Result<Turn, LexFault>
 
 /// A byte after one that begins a punctuator or a comment.
 #[tactic(auto, unfolding(crate::specs::Machine::after_one))]
-fn after_one(before: Option<Token>, a: u8, start: u32, at: u32, b: u8) -> Result<Turn, LexFault>
+fn after_one(
+    before: Option<Token>,
+    a: u8,
+    start: u32,
+    at: u32,
+    b: u8,
+    rest: &[u8],
+) -> Result<Turn, LexFault>
     requires { start + 1 ≤ at }
-    ensures value { result ≡ spec.after_one before a start at b }
+    ensures value { result ≡ spec.after_one before a start at b rest.now }
     ensures within { IfOk result (λ t. t.next.start + spec.least t.next.mode ≤ at + 1) }
 {
     if a == b'.' && is_digit(b) {
@@ -94,16 +134,16 @@ fn after_one(before: Option<Token>, a: u8, start: u32, at: u32, b: u8) -> Result
         goes(before, Mode::Two(a, b), start)
     } else {
         let punct = token(TokenKind::Punct, start, at);
-        begun(before, Some(punct), false, at, b)
+        begun(before, Some(punct), false, at, b, rest)
     }
 }
 
 /// A byte after two that are a punctuator or two points.
 #[tactic(auto, unfolding(crate::specs::Machine::after_two))]
-fn after_two(a: u8, c: u8, start: u32, at: u32, b: u8) -> Result<Turn, LexFault>
+fn after_two(a: u8, c: u8, start: u32, at: u32, b: u8, rest: &[u8]) -> Result<Turn, LexFault>
     requires order { start + 2 ≤ at }
     requires room { at < 2 ^ 24 }
-    ensures value { result ≡ spec.after_two a c start at b }
+    ensures value { result ≡ spec.after_two a c start at b rest.now }
     ensures within { IfOk result (λ t. t.next.start + spec.least t.next.mode ≤ at + 1) }
 {
     if is_triple(a, c, b) {
@@ -111,10 +151,10 @@ fn after_two(a: u8, c: u8, start: u32, at: u32, b: u8) -> Result<Turn, LexFault>
         goes(Some(punct), Mode::Blank(false), at)
     } else if is_double(a, c) {
         let punct = token(TokenKind::Punct, start, at);
-        begun(Some(punct), None, false, at, b)
+        begun(Some(punct), None, false, at, b, rest)
     } else {
         let point = token(TokenKind::Punct, start, start + 1);
-        after_one(Some(point), c, start + 1, at, b)
+        after_one(Some(point), c, start + 1, at, b, rest)
     }
 }
 
@@ -149,53 +189,36 @@ fn in_quotes(mark: u8, escaped: bool, start: u32, at: u32, b: u8) -> Result<Turn
     }
 }
 
-/// A byte in a line that began with `#`.
-#[tactic(auto, unfolding(crate::specs::Machine::in_hash))]
-fn in_hash(words: Directive, start: u32, at: u32, b: u8) -> Result<Turn, LexFault>
-    requires { start ≤ at }
-    ensures value { result ≡ spec.in_hash words start at b }
-    ensures within { IfOk result (λ t. t.next.start + spec.least t.next.mode ≤ at + 1) }
-{
-    if b != b'\n' {
-        goes(None, Mode::Hash(follow(words, b)), start)
-    } else if is_layout(words) {
-        Err(LexFault::BadByte(start))
-    } else {
-        goes(None, Mode::Blank(true), at)
-    }
-}
-
-/// One byte: the tokens that it ends, and the state after it.
+/// One byte that has these after it: the tokens that it ends, and the state after it.
 #[tactic(auto, unfolding(crate::specs::Machine::turn))]
-pub fn step(state: State, at: u32, b: u8) -> Result<Turn, LexFault>
+pub fn step(state: State, at: u32, b: u8, rest: &[u8]) -> Result<Turn, LexFault>
     requires order { state.start + spec.least state.mode ≤ at }
     requires room { at < 2 ^ 24 }
-    ensures value { result ≡ spec.turn state.mode state.start at b }
+    ensures value { result ≡ spec.turn state.mode state.start at b rest.now }
     ensures within { IfOk result (λ t. t.next.start + spec.least t.next.mode ≤ at + 1) }
 {
     let start = state.start;
     match state.mode {
-        Mode::Blank(fresh) => begun(None, None, fresh, at, b),
+        Mode::Blank(fresh) => begun(None, None, fresh, at, b, rest),
         Mode::Name if in_name(b) => goes(None, Mode::Name, start),
         Mode::Name => {
             let name = token(TokenKind::Name, start, at);
-            begun(Some(name), None, false, at, b)
+            begun(Some(name), None, false, at, b, rest)
         }
         Mode::Number(exponent) if in_number(exponent, b) => {
             goes(None, Mode::Number(is_exponent(b)), start)
         }
         Mode::Number(_) => {
             let number = token(TokenKind::Number, start, at);
-            begun(Some(number), None, false, at, b)
+            begun(Some(number), None, false, at, b, rest)
         }
         Mode::Quoted(mark, escaped) => in_quotes(mark, escaped, start, at, b),
-        Mode::One(a) => after_one(None, a, start, at, b),
-        Mode::Two(a, c) => after_two(a, c, start, at, b),
+        Mode::One(a) => after_one(None, a, start, at, b, rest),
+        Mode::Two(a, c) => after_two(a, c, start, at, b, rest),
         Mode::Comment(star) if star && b == b'/' => goes(None, Mode::Blank(false), at),
         Mode::Comment(_) => goes(None, Mode::Comment(b == b'*'), start),
         Mode::Line if b == b'\n' => goes(None, Mode::Blank(true), at),
         Mode::Line => goes(None, Mode::Line, start),
-        Mode::Hash(words) => in_hash(words, start, at, b),
     }
 }
 
@@ -228,8 +251,6 @@ pub fn finish(tokens: List<Token>, state: State, at: u32) -> Result<List<Token>,
             tokens.push(token(TokenKind::Punct, start, start + 1))?;
             tokens.push(token(TokenKind::Punct, start + 1, at))?;
         }
-        Mode::Hash(words) if is_layout(words) => return Err(LexFault::BadByte(start)),
-        Mode::Hash(_) => {}
         Mode::Quoted(_, _) => return Err(LexFault::OpenText(start)),
         Mode::Comment(_) => return Err(LexFault::OpenComment(start)),
     }

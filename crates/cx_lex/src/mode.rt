@@ -1,30 +1,5 @@
 use cx_base::Token;
 
-/// A word that a layout pragma has.
-#[derive(Clone, Copy, Debug, PartialEq, Eq)]
-pub enum Word {
-    Pragma,
-    Pack,
-    ScalarStorageOrder,
-}
-
-/// How far the words of a line that begins with `#` are those of a layout pragma.
-#[derive(Clone, Copy, Debug)]
-pub enum Directive {
-    /// No word of the line has begun, or, where it is true, none after the word `pragma`.
-    Blank(bool),
-    /// The same before a slash in which the line ends, and which may begin a comment.
-    Slash(bool),
-    /// The same before an open comment; the second is true after a star inside it.
-    Comment(bool, bool),
-    /// The line ends in so many of the first bytes of this word.
-    Word(Word, usize),
-    /// The words are those of a layout pragma.
-    Layout,
-    /// They are not.
-    Other,
-}
-
 /// What the bytes read so far end in.
 #[derive(Clone, Copy, Debug)]
 pub enum Mode {
@@ -43,10 +18,8 @@ pub enum Mode {
     Two(u8, u8),
     /// A comment between `/*` and `*/`; true after a star inside it.
     Comment(bool),
-    /// A comment that began with `//`.
+    /// A comment that began with `//`, or a line that began with `#`.
     Line,
-    /// A line that began with `#`.
-    Hash(Directive),
 }
 
 /// What is kept from byte to byte: the mode, and where its piece began.

@@ -58,19 +58,20 @@ fn tokens(rt: HostRuntime) -> Result<(), Fail> {
         // lines that begin with #
         ("# 1 \"a.c\"\nint x;\n# 2 \"a.c\" 3\ny", "int x ; y"),
         (" \t# 1 \"a.c\n\tx", "x"),
-        ("\x0b# 1", "# 1"),
-        ("x # 1", "x # 1"),
-        ("/* */ # 1", "# 1"),
-        ("/*\n*/# 1", "# 1"),
-        ("\"a\\\n\"# 1", "\"a\\\n\" # 1"),
-        ("# 1 \\\nx", "x"),
-        ("#if /* a\nb */ c", "b * / c"),
+        ("# 1 \"f.c\" /* a */\nx", "x"),
+        ("#if \\ a\nx", "x"),
         // pragmas that change no layout
         (
-            "#pragma once\n#pragma packed\n#pragma GCC pack\n#pack\n#pragmas pack\n# pragma pack1",
-            "",
+            "#pragma once\n#pragma STDC FP_CONTRACT OFF\n#pragma message \"x\"\nx",
+            "x",
         ),
-        ("#pragma /* pack */ a\n#pragma \"pack\"\n#pragma", ""),
+        (
+            "#pragma GCC diagnostic push\n#pragma clang diagnostic push\nx",
+            "x",
+        ),
+        ("#pragma GCC /**/ unroll 8\n#pragma once// pack(1)\nx", "x"),
+        ("#pack\n#pragmas pack\nx", "x"),
+        ("_Pragmas p_Pragma", "_Pragmas p_Pragma"),
     ];
     for (text, expected) in table {
         let found = spelled(&rt, rt.alloc(), text)?;
@@ -110,27 +111,45 @@ fn faults(rt: HostRuntime) {
     assert!(rt; stops(&rt, alloc, b"x /*", LexFault::OpenComment(2)));
     assert!(rt; stops(&rt, alloc, b"/*/", LexFault::OpenComment(0)));
     assert!(rt; stops(&rt, alloc, b"@ /*", LexFault::BadByte(0)));
-    assert!(rt; stops(&rt, alloc, b"x\n#pragma pack(1)\n", LexFault::BadByte(2)));
-    assert!(rt; stops(&rt, alloc, b" # pragma\tpack", LexFault::BadByte(1)));
-    assert!(rt;
-        stops(
-            &rt,
-            alloc,
-            b"#/* a */pragma/**/ pack(1)",
-            LexFault::BadByte(0)
-        )
-    );
-    assert!(rt;
-        stops(
-            &rt,
-            alloc,
-            b"#pragma scalar_storage_order big-endian",
-            LexFault::BadByte(0)
-        )
-    );
     assert!(rt; stops(&rt, alloc, b"a<:1:>", LexFault::BadByte(1)));
     assert!(rt; stops(&rt, alloc, b"a :>", LexFault::BadByte(2)));
     assert!(rt; stops(&rt, alloc, b"<%", LexFault::BadByte(0)));
     assert!(rt; stops(&rt, alloc, b"a %> b", LexFault::BadByte(2)));
     assert!(rt; stops(&rt, alloc, b"%: 1", LexFault::BadByte(0)));
+}
+
+#[test]
+fn directives(rt: HostRuntime) {
+    let table: [(&[u8], u32); 25] = [
+        (b"x\n#pragma pack(1)\n", 2),
+        (b" # pragma\tpack", 1),
+        (b"#pragma", 0),
+        (b"#pragma packed", 0),
+        (b"#pragma/**/pack(1)", 0),
+        (b"# /* c */ pragma pack(1)", 0),
+        (b"#pragma // once", 0),
+        (b"#pragma GCC", 0),
+        (b"#pragma GCC optimize(\"short-enums\")", 0),
+        (b"#pragma GCC pack", 0),
+        (b"#pragma clang attribute push", 0),
+        (b"#pragma ms_struct on", 0),
+        (b"#pragma options align=packed", 0),
+        (b"#pragma scalar_storage_order big-endian", 0),
+        (b"x _Pragma(\"pack(1)\")", 2),
+        (b"+_Pragma", 1),
+        // lines that go on
+        (b"# 1 \\\nx", 0),
+        (b"# 1 \\ \t\nx", 0),
+        (b"#if /* a\nb */ c", 0),
+        (b"# 1 /*/", 0),
+        // a # that begins no line
+        (b"/**/ #pragma pack(1)", 5),
+        (b"\x0b# 1", 1),
+        (b"x # 1", 2),
+        (b"/*\n*/# 1", 5),
+        (b"\"a\\\n\"# 1", 5),
+    ];
+    for (text, at) in table {
+        assert!(rt; stops(&rt, rt.alloc(), text, LexFault::BadByte(at)));
+    }
 }

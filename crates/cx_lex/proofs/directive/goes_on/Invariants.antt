@@ -1,0 +1,9 @@
+use Rattle.std.proofs.Common.{◌≡◌, length, false}
+use Rattle.cx_lex.specs.Directives as spec
+use Rattle.cx_lex.proofs.directive.goes_on.Given as goal
+
+abbrev pub decreases-loop-rest : goal.decreases-loop-rest
+decreases-loop-rest l = length l.rest
+
+abbrev pub invariant-loop-rest : goal.invariant-loop-rest
+invariant-loop-rest l = spec.goes_on l.found l.rest ≡ spec.goes_on false l.line
