@@ -13,6 +13,7 @@ use Rattle.cx_lex.specs.declared.mode.State.{State}
 use Rattle.cx_lex.specs.Bytes.{is_blank, is_indent, starts_name, is_digit, in_name, is_exponent, in_number, is_mark, is_single, is_double, is_triple, is_digraph}
 use Rattle.cx_lex.specs.Directives.{is_refused}
 use Rattle.std.specs.Str.{bytes_eq}
+use Rattle.cx_base.proofs.General.{both_true}
 use Rattle.cx_lex.specs.Lexed.{name_len, number_len, line_len, quoted_len, comment_len, punct_len, next_is, passed, taken, stopped, mark_kind, quoted_piece, comment_piece, punct_piece, other_piece, token, with_token, piece_then, tokens_from, lexed}
 use Rattle.cx_lex.specs.Machine.{at_mode, begin, begun, after_one, after_two, in_quotes, turn, end, with_ended, after, run}
 
@@ -40,10 +41,6 @@ record Runs (bs : List ℕ) : Type 0 where
   dots : (start : ℕ) → run (at_mode (m.Two 46 46) start) (suc (suc start)) bs ≡ piece_then start (punct_piece (punct_len (46 ∷ 46 ∷ bs))) (λ n fresh. tokens_from n fresh (suc start) (46 ∷ bs))
 
 -- facts on single bytes
-
-and_true : (p q : Bool) → (p && q) ≡ true → (p ≡ true) × (q ≡ true)
-and_true true q e = (refl, e)
-and_true false q e = absurd cc
 
 digit_in_number : (b : ℕ) → is_digit b ≡ true → (in_number false b ≡ true) × (is_exponent b ≡ false)
 unfolding is_digit in_number in_name is_exponent starts_name
@@ -233,7 +230,7 @@ only_one a b (c ∷ bs) h k d = rw (triple_is_double a b c k d, k, h) refl
 
 two_dots : (a b : ℕ) (bs : List ℕ) → Runs bs → (start : ℕ) → ((a == 46) && (b == 46)) ≡ true → run (at_mode (m.Two a b) start) (suc (suc start)) bs ≡ piece_then start (punct_piece (punct_len (a ∷ b ∷ bs))) (λ n fresh. tokens_from n fresh (suc start) (b ∷ bs))
 two_dots a b bs h start e =
-    let t = and_true (a == 46) (b == 46) e in
+    let t = both_true (a == 46) (b == 46) e in
     let ea : 46 ≡ a = sym (eqb-true a 46 t.0) in
     let eb : 46 ≡ b = sym (eqb-true b 46 t.1) in
     subst (λ (p : ℕ × ℕ). run (at_mode (m.Two p.0 p.1) start) (suc (suc start)) bs ≡ piece_then start (punct_piece (punct_len (p.0 ∷ p.1 ∷ bs))) (λ n fresh. tokens_from n fresh (suc start) (p.1 ∷ bs))) (λ i. (ea i, eb i)) (h.dots start)
@@ -243,11 +240,11 @@ unfolding run turn after_one other_piece
 one_step b bs h a start one =
     elim (cases_Bool ((a == 46) && is_digit b)) [
       | inl t1 ↦
-          let d : (in_number false b ≡ true) × (is_exponent b ≡ false) = digit_in_number b (and_true (a == 46) (is_digit b) t1).1 in
+          let d : (in_number false b ≡ true) × (is_exponent b ≡ false) = digit_in_number b (both_true (a == 46) (is_digit b) t1).1 in
           let e : suc start + suc (number_len false bs) ≡ suc (suc start) + number_len false bs = omega arith in
           rw (t1, d.0, d.1, e) (h.number false start (suc (suc start)))
       | inr f1 ↦ elim (cases_Bool ((a == 47) && (b == 47))) [
-        | inl t2 ↦ let slash : (b == 10) ≡ false = ap (λ (n : ℕ). n == 10) (eqb-true b 47 (and_true (a == 47) (b == 47) t2).1) in rw (f1, t2, slash) (h.line start (suc (suc start)))
+        | inl t2 ↦ let slash : (b == 10) ≡ false = ap (λ (n : ℕ). n == 10) (eqb-true b 47 (both_true (a == 47) (b == 47) t2).1) in rw (f1, t2, slash) (h.line start (suc (suc start)))
         | inr f2 ↦ elim (cases_Bool ((a == 47) && (b == 42))) [
           | inl t3 ↦ rw (f1, f2, t3) (h.comment false start (suc (suc start)) ∙ comment_begins start b bs (comment_len false bs))
           | inr f3 ↦ elim (cases_Bool (is_digraph a b)) [

@@ -7,6 +7,7 @@ use Rattle.std.specs.Prelude.{option_map, IfSome, codes}
 use Rattle.std.specs.Str.{bytes_eq}
 use Rattle.cx_base.specs.declared.token.TokenKind.{TokenKind}
 use Rattle.cx_base.specs.declared.token.Token.{Token}
+use Rattle.cx_base.proofs.General.{both_true}
 use Rattle.cx_lex.specs.declared.fault.LexFault.{LexFault}
 use Rattle.cx_lex.specs.Bytes.{is_blank, starts_name, is_digit, is_mark, is_digraph}
 use Rattle.cx_lex.specs.Directives.{is_refused}
@@ -20,10 +21,6 @@ abbrev Passes : Piece → ℕ → List ℕ → Type 0
 Passes (passed n fresh) b bs = IsPassed (b ∷ take n bs)
 Passes (taken k n) b bs = Unit {0}
 Passes (stopped f) b bs = Unit {0}
-
-and_true : (p q : Bool) → (p && q) ≡ true → (p ≡ true) × (q ≡ true)
-and_true true q e = (refl, e)
-and_true false q e = absurd cc
 
 newline_is_blank : (b : ℕ) → (b == 10) ≡ true → is_blank b ≡ true
 unfolding is_blank
@@ -41,9 +38,9 @@ directive_line b bs e =
     ]
 
 remark_line : (b : ℕ) (bs : List ℕ) → ((b == 47) && next_is (λ c. c == 47) bs) ≡ true → IsPassed (b ∷ take (line_len bs) bs)
-remark_line b [] e = let t = and_true (b == 47) false e in absurd cc
+remark_line b [] e = let t = both_true (b == 47) false e in absurd cc
 remark_line b (c ∷ cs) e =
-    let t = and_true (b == 47) (c == 47) e in
+    let t = both_true (b == 47) (c == 47) e in
     let eb : 47 ≡ b = sym (eqb-true b 47 t.0) in
     let ec : 47 ≡ c = sym (eqb-true c 47 t.1) in
     subst (λ (p : ℕ × ℕ). IsPassed (p.0 ∷ take (line_len (p.1 ∷ cs)) (p.1 ∷ cs))) (λ i. (eb i, ec i)) (remark (take (line_len cs) cs) (one_line cs))
@@ -91,9 +88,9 @@ comment_through b c cs (Some n) eb ec h =
     subst (λ (p : ℕ × ℕ). IsPassed (p.0 ∷ p.1 ∷ take n cs)) (λ i. (eb i, ec i)) k
 
 comment_passes : (b : ℕ) (bs : List ℕ) → ((b == 47) && next_is (λ c. c == 42) bs) ≡ true → Passes (comment_piece (comment_len false (rest_of bs))) b bs
-comment_passes b [] e = let t = and_true (b == 47) false e in absurd cc
+comment_passes b [] e = let t = both_true (b == 47) false e in absurd cc
 comment_passes b (c ∷ cs) e =
-    let t = and_true (b == 47) (c == 42) e in
+    let t = both_true (b == 47) (c == 42) e in
     comment_through b c cs (comment_len false cs) (sym (eqb-true b 47 t.0)) (sym (eqb-true c 42 t.1)) (comment_closes false cs)
 
 quoted_passes : (k : TokenKind) (o : Option ℕ) (b : ℕ) (bs : List ℕ) → Passes (quoted_piece k o) b bs
@@ -131,7 +128,7 @@ piece_passes fresh b bs =
       | inr f1 ↦ elim (cases_Bool (is_blank b)) [
         | inl t2 ↦ rw (f1, t2) (blank b t2)
         | inr f2 ↦ elim (cases_Bool (fresh && (b == 35))) [
-          | inl t3 ↦ rw (f1, f2, t3) (directive_line b bs (and_true fresh (b == 35) t3).1)
+          | inl t3 ↦ rw (f1, f2, t3) (directive_line b bs (both_true fresh (b == 35) t3).1)
           | inr f3 ↦ elim (cases_Bool (starts_name b)) [
             | inl t4 ↦ rw (f1, f2, f3, t4) (name_passes b bs)
             | inr f4 ↦ elim (cases_Bool (is_digit b)) [
