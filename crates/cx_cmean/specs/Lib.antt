@@ -1,0 +1,5 @@
+pub mod Program
+pub mod Numbers
+pub mod Expressions
+pub mod Effects
+pub mod Statements

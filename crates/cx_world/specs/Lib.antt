@@ -1,0 +1,5 @@
+pub mod Oracle
+pub mod World
+pub mod Access
+pub mod Calls
+pub mod Laws
