@@ -1,0 +1,2 @@
+//! The lowering of functions of C to block code.
+#![tactic(auto)]
