@@ -1,9 +1,10 @@
 use cx_base::List;
 use cx_cword::Punctuator as Mark;
 use cx_lex::lex;
+use cx_reader::split;
 use cx_tword::{
-    TypeLexeme, TypeLexemeKind as Kind, TypeWord as Word, is_c_word, next_mark, next_name,
-    next_number, next_type_word, split, type_lexemes, type_word_of,
+    TypeLexeme, TypeLexemeKind as Kind, TypeWord as Word, is_c_word, is_mark, is_name, is_word,
+    type_lexemes, type_word_of,
 };
 use std::alloc::Global;
 use std::process::Abort;
@@ -17,7 +18,8 @@ pub fn lexemes_of(rt: &impl Abort, alloc: Global, text: &str) -> Result<List<Typ
 }
 
 /// Texts of one token each, and what it is.
-const KINDS: [(&str, Kind); 90] = [
+const KINDS: [(&str, Kind); 91] = [
+    ("shared", Kind::Word(Word::Shared)),
     ("region", Kind::Word(Word::Region)),
     ("some", Kind::Word(Word::Some)),
     ("of", Kind::Word(Word::Of)),
@@ -61,28 +63,28 @@ const KINDS: [(&str, Kind); 90] = [
         Kind::Signed(2),
     ),
     // other sizes
-    ("any0", Kind::Other),
-    ("any000", Kind::Other),
-    ("any4097", Kind::Other),
-    ("any65537", Kind::Other),
-    ("any4294967297", Kind::Other),
-    ("any18446744073709551617", Kind::Other),
+    ("any0", Kind::OtherSize),
+    ("any000", Kind::OtherSize),
+    ("any4097", Kind::OtherSize),
+    ("any65537", Kind::OtherSize),
+    ("any4294967297", Kind::OtherSize),
+    ("any18446744073709551617", Kind::OtherSize),
     (
         "any100000000000000000000000000000000000000000000000000000000000",
-        Kind::Other,
+        Kind::OtherSize,
     ),
-    ("u0", Kind::Other),
-    ("u3", Kind::Other),
-    ("u16", Kind::Other),
-    ("u80", Kind::Other),
-    ("u264", Kind::Other),
-    ("u65544", Kind::Other),
-    ("u340282366920938463463374607431768211464", Kind::Other),
-    ("s5", Kind::Other),
-    ("s16", Kind::Other),
+    ("u0", Kind::OtherSize),
+    ("u3", Kind::OtherSize),
+    ("u16", Kind::OtherSize),
+    ("u80", Kind::OtherSize),
+    ("u264", Kind::OtherSize),
+    ("u65544", Kind::OtherSize),
+    ("u340282366920938463463374607431768211464", Kind::OtherSize),
+    ("s5", Kind::OtherSize),
+    ("s16", Kind::OtherSize),
     (
         "s999999999999999999999999999999999999999999999999999999999999",
-        Kind::Other,
+        Kind::OtherSize,
     ),
     // names that nearly are reserved
     ("regions", Kind::Name),
@@ -146,30 +148,17 @@ fn kinds(rt: HostRuntime) -> Result<(), Fail> {
     Ok(())
 }
 
-/// The first and the past of the lexeme that was read, and how many come after it.
-fn place_of(read: Option<(TypeLexeme, &[TypeLexeme])>) -> Option<(u32, u32, usize)> {
-    let (lexeme, rest) = read?;
-    Some((lexeme.span.first, lexeme.span.past, rest.len()))
-}
-
 #[test]
-fn readers(rt: HostRuntime) -> Result<(), Fail> {
+fn first_lexemes(rt: HostRuntime) -> Result<(), Fail> {
     let lexemes = lexemes_of(&rt, rt.alloc(), "fn f // of\n(7)")?;
-    let all = lexemes.as_slice();
-    assert_eq!(rt; all.len(), 5);
-    assert_eq!(rt; place_of(next_type_word(Word::Fn, all)), Some((0, 2, 4)));
-    assert_eq!(rt; place_of(next_type_word(Word::Of, all)), None);
-    assert_eq!(rt; place_of(next_name(all)), None);
-    assert_eq!(rt; place_of(next_name(&all[1..])), Some((3, 4, 3)));
-    assert_eq!(rt;
-        place_of(next_mark(Mark::OpenParen, &all[2..])),
-        Some((11, 12, 2))
-    );
-    assert_eq!(rt; place_of(next_mark(Mark::CloseParen, &all[2..])), None);
-    assert_eq!(rt; place_of(next_number(&all[3..])), Some((12, 13, 1)));
-    assert_eq!(rt; place_of(next_number(&all[4..])), None);
-    assert_eq!(rt; place_of(split(&all[4..])), Some((13, 14, 0)));
-    assert_eq!(rt; place_of(split(&all[5..])), None);
+    let Some((word, rest)) = split(lexemes.as_slice()) else {
+        panic!(&rt; "no lexeme");
+    };
+    assert!(&rt; is_word(Word::Fn, word) && !is_word(Word::Of, word) && !is_name(word));
+    assert!(&rt; word.span.past == 2 && rest.len() == 4);
+    assert!(&rt; is_name(rest[0]) && is_mark(Mark::OpenParen, rest[1]));
+    assert!(&rt; !is_mark(Mark::CloseParen, rest[1]) && !is_mark(Mark::OpenParen, rest[2]));
+    assert!(&rt; split(&rest[4..]).is_none());
     Ok(())
 }
 

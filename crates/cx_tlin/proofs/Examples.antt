@@ -1,5 +1,5 @@
 -- The grammar of linear forms on examples, by what is read.
-use Rattle.std.specs.Prelude.{◌≡◌, ℕ, ◌+◌, slice_range, refl, codes, List, [], ◌∷◌, Some, None, pos, true, false}
+use Rattle.std.specs.Prelude.{◌≡◌, ℕ, ◌+◌, slice_range, refl, codes, List, [], ◌∷◌, pos, true, false}
 use Rattle.cx_cword.specs.declared.word.Punctuator.TheVariants as p
 use Rattle.cx_cword.specs.Reading.{span_between}
 use Rattle.cx_tsyn.specs.Words.{WordTree}
@@ -8,7 +8,8 @@ use Rattle.cx_tsyn.specs.declared.lin.SRel.TheVariants as r
 use Rattle.cx_tword.specs.declared.lexeme.TypeLexeme.{TypeLexeme}
 use Rattle.cx_tword.specs.declared.lexeme.TypeLexemeKind.{TypeLexemeKind}
 use Rattle.cx_tword.specs.declared.lexeme.TypeLexemeKind.TheVariants as l
-use Rattle.cx_tlin.specs.Reading.{part_at, parts_at, lin_from, lin_at, relation_at, list_at, names_at}
+use Rattle.cx_reader.specs.Answers.{fault, give, many_at}
+use Rattle.cx_tlin.specs.Reading.{name_at, number_at, part_at, lin_from, body_at, lin_at, relation_at, names_at}
 
 abbrev at : ℕ → ℕ → TypeLexemeKind → TypeLexeme
 at first past kind = record { span = span_between first past; kind = kind }
@@ -32,20 +33,25 @@ sides_tree = record {
 }
 
 -- both sides of a relation, the first with a minus before its first part
-a_relation : relation_at text sides ≡ Some (record { tree = sides_tree; past = 11; rest = [] })
-unfolding part_at parts_at lin_from lin_at relation_at
+a_relation : relation_at text sides ≡ give sides_tree []
+unfolding name_at number_at part_at many_at lin_from body_at lin_at relation_at
 a_relation = refl
 
 -- a number before a star is a factor, and a sign has a part after it
-no_factor : part_at text (at 1 2 (l.Number (pos 3)) ∷ at 2 3 (l.Punctuator p.Star) ∷ []) ≡ None
-unfolding part_at
+no_factor : part_at text (at 1 2 (l.Number (pos 3)) ∷ at 2 3 (l.Punctuator p.Star) ∷ []) ≡ fault 0
+unfolding name_at number_at part_at
 no_factor = refl
 
-no_part_after : lin_at text (at 3 4 l.Name ∷ at 4 5 (l.Punctuator p.Plus) ∷ []) ≡ None
-unfolding part_at parts_at lin_from lin_at
+no_part_after : lin_at text (at 3 4 l.Name ∷ at 4 5 (l.Punctuator p.Plus) ∷ []) ≡ fault 0
+unfolding name_at number_at part_at many_at lin_from body_at lin_at
 no_part_after = refl
 
 -- a comma has a name after it
-no_name_after : names_at text (at 3 4 l.Name ∷ at 4 5 (l.Punctuator p.Comma) ∷ []) ≡ None
-unfolding list_at
+no_name_after : names_at text (at 3 4 l.Name ∷ at 4 5 (l.Punctuator p.Comma) ∷ []) ≡ fault 0
+unfolding name_at many_at
 no_name_after = refl
+
+-- a sign of comparison has a linear form after it: the fault is at what stands there
+no_right_side : relation_at text (at 3 4 l.Name ∷ at 6 8 (l.Punctuator p.LessEqual) ∷ at 2 3 (l.Punctuator p.Star) ∷ at 5 6 l.Name ∷ []) ≡ fault 2
+unfolding name_at number_at part_at many_at lin_from body_at lin_at relation_at
+no_right_side = refl

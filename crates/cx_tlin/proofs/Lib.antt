@@ -1,8 +1,5 @@
-pub mod Growing
-pub mod Turns
-pub mod Spans
-pub mod Steps
-pub mod Sound
+pub mod Places
+pub mod Told
 pub mod There
 pub mod Laws
-pub mod Examples
+mod Examples

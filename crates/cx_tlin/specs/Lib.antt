@@ -2,4 +2,3 @@ pub mod Lexemes
 pub mod Lins
 pub mod Kinds
 pub mod Reading
-pub mod Laws

@@ -1,136 +1,101 @@
 -- Reading words, linear forms and relations from left to right.
-use Rattle.std.specs.Prelude.{ℕ, zero, suc, ℤ, Bool, true, false, List, [], ◌∷◌, ◌++◌, length, map, Option, Some, None, if◌then◌else◌}
+use Rattle.std.specs.Prelude.{ℕ, suc, ℤ, Bool, true, false, List, [], length, map, Option, Some, None, if◌then◌else◌}
 use Rattle.cx_base.specs.declared.span.Span.{Span}
+use Rattle.cx_cword.specs.declared.word.Punctuator.TheVariants as p
 use Rattle.cx_cword.specs.Lexemes.{text_of}
-use Rattle.cx_cword.specs.Reading.{span_between, ◌>>=◌}
 use Rattle.cx_tsyn.specs.declared.lin.LinPart.{LinPart}
 use Rattle.cx_tsyn.specs.declared.lin.SRel.{SRel}
-use Rattle.cx_tsyn.specs.Words.{WordTree, word_tree}
-use Rattle.cx_tsyn.specs.Lins.{LinPartTree, number, times, symbol, lin_part_tree, LinTree, lin_tree, RelationTree, relation_tree}
+use Rattle.cx_tsyn.specs.Words.{WordTree}
+use Rattle.cx_tsyn.specs.Lins.{LinPartTree, number, times, symbol, lin_part_tree, LinTree, RelationTree}
 use Rattle.cx_tword.specs.declared.lexeme.TypeLexeme.{TypeLexeme}
 use Rattle.cx_tword.specs.declared.lexeme.TypeLexemeKind.{TypeLexemeKind}
 use Rattle.cx_tword.specs.declared.lexeme.TypeLexemeKind.TheVariants as l
-use Rattle.cx_tlin.specs.declared.parts.ReadName.{ReadName}
-use Rattle.cx_tlin.specs.declared.parts.ReadPart.{ReadPart}
-use Rattle.cx_tlin.specs.declared.forms.ReadParts.{ReadParts}
-use Rattle.cx_tlin.specs.declared.forms.ReadLin.{ReadLin}
-use Rattle.cx_tlin.specs.declared.forms.ReadRelation.{ReadRelation}
-use Rattle.cx_tlin.specs.declared.lists.ReadNames.{ReadNames}
-use Rattle.cx_tlin.specs.declared.lists.ReadLins.{ReadLins}
-use Rattle.cx_tlin.specs.declared.lists.ReadRelations.{ReadRelations}
-use Rattle.cx_tlin.specs.Kinds.{is_name, is_star, is_comma, is_minus, sign_of, relation_of}
+use Rattle.cx_tword.specs.Marks.{is_mark, is_name}
+use Rattle.cx_reader.specs.Answers.{Got, Answer, fault, ◌>>=◌, give, front_of, at_lexeme, next_at, maybe_at, many_at, listed_at}
+use Rattle.cx_tlin.specs.declared.forms.LinParts.{LinParts}
+use Rattle.cx_tlin.specs.Lexemes.{span_of}
+use Rattle.cx_tlin.specs.Kinds.{is_sign, relation_of}
 
--- ---- what was read
-
--- what was read, the place past its last lexeme, and the lexemes after it
-pub record Got (A : Type 0) : Type 0 where
-  pub tree : A
-  pub past : ℕ
-  pub rest : List TypeLexeme
-
--- a part with whether the sign before it is a minus
-abbrev pub signed_tree : Bool × LinPart → Bool × LinPartTree
-signed_tree p = (p.0, lin_part_tree p.1)
-
-abbrev pub got_name : ReadName → Got WordTree
-got_name r = record { tree = word_tree r.tree; past = r.past; rest = r.rest.now }
-
-abbrev pub got_part : ReadPart → Got LinPartTree
-got_part r = record { tree = lin_part_tree r.tree; past = r.past; rest = r.rest.now }
-
-abbrev pub got_parts : ReadParts → Got (List (Bool × LinPartTree))
-got_parts r = record { tree = map signed_tree r.tree; past = r.past; rest = r.rest.now }
-
-abbrev pub got_lin : ReadLin → Got LinTree
-got_lin r = record { tree = lin_tree r.tree; past = r.past; rest = r.rest.now }
-
-abbrev pub got_relation : ReadRelation → Got RelationTree
-got_relation r = record { tree = relation_tree r.tree; past = r.past; rest = r.rest.now }
-
-abbrev pub got_names : ReadNames → Got (List WordTree)
-got_names r = record { tree = map word_tree r.tree; past = r.past; rest = r.rest.now }
-
-abbrev pub got_lins : ReadLins → Got (List LinTree)
-got_lins r = record { tree = map lin_tree r.tree; past = r.past; rest = r.rest.now }
-
-abbrev pub got_relations : ReadRelations → Got (List RelationTree)
-got_relations r = record { tree = map relation_tree r.tree; past = r.past; rest = r.rest.now }
-
--- ---- parts
-
-abbrev pub at_lexeme : {A : Type 0} → List TypeLexeme → Option A → (TypeLexeme → List TypeLexeme → Option A) → Option A
-at_lexeme [] end go = end
-at_lexeme (o ∷ os) end go = go o os
+-- ---- words and parts
 
 -- the word that stands at this place
 abbrev pub word_at : List ℕ → Span → WordTree
 word_at bytes s = record { span = s; text = text_of bytes s }
 
--- a name
-abbrev pub name_at : List ℕ → List TypeLexeme → Option (Got WordTree)
-name_at bytes os = at_lexeme os None (λ o rest. if is_name o.kind then Some (record { tree = word_at bytes o.span; past = o.span.past; rest = rest }) else None)
+unfoldable pub name_at : List ℕ → List TypeLexeme → Answer TypeLexeme WordTree
+name_at bytes os = next_at is_name os (λ o rest. give (word_at bytes o.span) rest)
 
--- a number times the name that comes first
-abbrev pub times_at : List ℕ → ℤ → List TypeLexeme → Option (Got LinPartTree)
-times_at bytes z os = name_at bytes os >>= λ x. Some (record { tree = times z x.tree; past = x.past; rest = x.rest })
+-- goes on after a number: a star and a name may follow
+unfoldable pub number_at : List ℕ → ℤ → List TypeLexeme → Answer TypeLexeme LinPartTree
+number_at bytes z os = maybe_at (is_mark p.Star) (number z) os (λ m rest. name_at bytes rest >>= λ x. give (times z x.tree) x.rest)
 
--- goes on after a number that ends at this place
-abbrev pub number_at : List ℕ → ℤ → (past : ℕ) → List TypeLexeme → Option (Got LinPartTree)
-number_at bytes z past os =
-    let alone : Got LinPartTree = record { tree = number z; past = past; rest = os } in
-    at_lexeme os (Some alone) (λ m rest. if is_star m.kind then times_at bytes z rest else Some alone)
+abbrev pub part_by : List ℕ → TypeLexeme → (os rest : List TypeLexeme) → TypeLexemeKind → Answer TypeLexeme LinPartTree
+part_by bytes o os rest (l.Number z) = number_at bytes z rest
+part_by bytes o os rest l.Name = give (symbol (word_at bytes o.span)) rest
+part_by bytes o os rest _ = fault (length os)
 
-abbrev pub part_by : List ℕ → TypeLexeme → List TypeLexeme → TypeLexemeKind → Option (Got LinPartTree)
-part_by bytes o rest (l.Number z) = number_at bytes z o.span.past rest
-part_by bytes o rest l.Name = Some (record { tree = symbol (word_at bytes o.span); past = o.span.past; rest = rest })
-part_by bytes o rest _ = None
-
-unfoldable pub part_at : List ℕ → List TypeLexeme → Option (Got LinPartTree)
-part_at bytes os = at_lexeme os None (λ o rest. part_by bytes o rest o.kind)
+unfoldable pub part_at : List ℕ → List TypeLexeme → Answer TypeLexeme LinPartTree
+part_at bytes os = at_lexeme os (fault (length os)) (λ o rest. part_by bytes o os rest o.kind)
 
 -- ---- linear forms
 
-abbrev pub signed_by : (Bool → Option (Got (List (Bool × LinPartTree)))) → Got (List (Bool × LinPartTree)) → Option Bool → Option (Got (List (Bool × LinPartTree)))
-signed_by again done (Some minus) = again minus
-signed_by again done None = Some done
+-- a part behind the sign
+abbrev pub signed_at : List ℕ → TypeLexeme → List TypeLexeme → Answer TypeLexeme (Bool × LinPartTree)
+signed_at bytes o rest = part_at bytes rest >>= λ x. give (is_mark p.Minus o, x.tree) x.rest
 
--- signed parts, of which no more than so many are left, after those that were read up to this place
-unfoldable pub parts_at : List ℕ → ℕ → List (Bool × LinPartTree) → (past : ℕ) → List TypeLexeme → Option (Got (List (Bool × LinPartTree)))
-parts_at bytes zero all past os = Some (record { tree = all; past = past; rest = os })
-parts_at bytes (suc n) all past os =
-    let done : Got (List (Bool × LinPartTree)) = record { tree = all; past = past; rest = os } in
-    at_lexeme os (Some done) (λ o rest. signed_by (λ minus. part_at bytes rest >>= λ x. parts_at bytes n (all ++ (minus, x.tree) ∷ []) x.past x.rest) done (sign_of o.kind))
+abbrev pub parts_at : List ℕ → List TypeLexeme → Answer TypeLexeme (List (Bool × LinPartTree))
+parts_at bytes os = many_at is_sign (signed_at bytes) (suc (length os)) [] os
 
--- a linear form that begins at this place, from its first part on
-unfoldable pub lin_from : List ℕ → (negative : Bool) → (first : ℕ) → List TypeLexeme → Option (Got LinTree)
-lin_from bytes negative first os =
-    part_at bytes os >>= λ x. parts_at bytes (length x.rest) [] x.past x.rest >>= λ y.
-    Some (record { tree = record { span = span_between first y.past; negative = negative; first = x.tree; rest = y.tree }; past = y.past; rest = y.rest })
+-- whether a minus stands first, the first part, and the others
+abbrev pub LinBody : Type 0
+LinBody = Bool × LinPartTree × List (Bool × LinPartTree)
 
-unfoldable pub lin_at : List ℕ → List TypeLexeme → Option (Got LinTree)
-lin_at bytes os = at_lexeme os None (λ o rest. if is_minus o.kind then lin_from bytes true o.span.first rest else lin_from bytes false o.span.first os)
+-- from the first part on
+unfoldable pub lin_from : List ℕ → (negative : Bool) → List TypeLexeme → Answer TypeLexeme LinBody
+lin_from bytes negative os = part_at bytes os >>= λ x. parts_at bytes x.rest >>= λ y. give (negative, x.tree, y.tree) y.rest
 
-abbrev pub related_by : List ℕ → LinTree → List TypeLexeme → Option SRel → Option (Got RelationTree)
-related_by bytes left rest (Some rel) = lin_at bytes rest >>= λ y. Some (record { tree = record { left = left; rel = rel; right = y.tree }; past = y.past; rest = y.rest })
-related_by bytes left rest None = None
+unfoldable pub body_at : List ℕ → List TypeLexeme → Answer TypeLexeme LinBody
+body_at bytes os = at_lexeme os (fault (length os)) (λ o rest. if is_mark p.Minus o then lin_from bytes true rest else lin_from bytes false os)
 
-unfoldable pub relation_at : List ℕ → List TypeLexeme → Option (Got RelationTree)
-relation_at bytes os = lin_at bytes os >>= λ x. at_lexeme x.rest None (λ o rest. related_by bytes x.tree rest (relation_of o.kind))
+-- the linear form that these lexemes spell
+abbrev pub lin_of : List TypeLexeme → LinBody → LinTree
+lin_of front x = record { span = span_of front; negative = x.0; first = x.1; rest = x.2 }
+
+unfoldable pub lin_at : List ℕ → List TypeLexeme → Answer TypeLexeme LinTree
+lin_at bytes os = body_at bytes os >>= λ x. give (lin_of (front_of os x.rest) x.tree) x.rest
+
+-- ---- relations
+
+abbrev pub relation : LinTree → SRel → LinTree → RelationTree
+relation x rel y = record { left = x; rel = rel; right = y }
+
+abbrev pub related_by : List ℕ → LinTree → (os rest : List TypeLexeme) → Option SRel → Answer TypeLexeme RelationTree
+related_by bytes left os rest (Some rel) = lin_at bytes rest >>= λ y. give (relation left rel y.tree) y.rest
+related_by bytes left os rest None = fault (length os)
+
+-- behind the left side
+abbrev pub related_at : List ℕ → Got TypeLexeme LinTree → Answer TypeLexeme RelationTree
+related_at bytes x = at_lexeme x.rest (fault (length x.rest)) (λ o rest. related_by bytes x.tree x.rest rest (relation_of o.kind))
+
+unfoldable pub relation_at : List ℕ → List TypeLexeme → Answer TypeLexeme RelationTree
+relation_at bytes os = lin_at bytes os >>= related_at bytes
 
 -- ---- lists
 
--- what the reader reads, again and again behind commas, no more than so many times, after those that were read
-unfoldable pub list_at : {A : Type 0} → (List TypeLexeme → Option (Got A)) → ℕ → List A → List TypeLexeme → Option (Got (List A))
-list_at read zero all os = None
-list_at read (suc n) all os =
-    read os >>= λ x. let done : Got (List _) = record { tree = all ++ x.tree ∷ []; past = x.past; rest = x.rest } in
-    at_lexeme x.rest (Some done) (λ c rest. if is_comma c.kind then list_at read n (all ++ x.tree ∷ []) rest else Some done)
+abbrev pub names_at : List ℕ → List TypeLexeme → Answer TypeLexeme (List WordTree)
+names_at bytes = listed_at (is_mark p.Comma) (name_at bytes)
 
-abbrev pub names_at : List ℕ → List TypeLexeme → Option (Got (List WordTree))
-names_at bytes os = list_at (name_at bytes) (length os) [] os
+abbrev pub lins_at : List ℕ → List TypeLexeme → Answer TypeLexeme (List LinTree)
+lins_at bytes = listed_at (is_mark p.Comma) (lin_at bytes)
 
-abbrev pub lins_at : List ℕ → List TypeLexeme → Option (Got (List LinTree))
-lins_at bytes os = list_at (lin_at bytes) (length os) [] os
+abbrev pub relations_at : List ℕ → List TypeLexeme → Answer TypeLexeme (List RelationTree)
+relations_at bytes = listed_at (is_mark p.Comma) (relation_at bytes)
 
-abbrev pub relations_at : List ℕ → List TypeLexeme → Option (Got (List RelationTree))
-relations_at bytes os = list_at (relation_at bytes) (length os) [] os
+-- ---- what the code reads, as plain data
+
+-- a part with whether the sign before it is a minus
+abbrev pub signed_tree : Bool × LinPart → Bool × LinPartTree
+signed_tree p = (p.0, lin_part_tree p.1)
+
+abbrev pub body_tree : LinParts → LinBody
+body_tree b = (b.negative, lin_part_tree b.first, map signed_tree b.rest)

@@ -1,101 +1,124 @@
-ghost use Rattle.std.specs.Prelude.{◌≡◌, [], length, map, IfOk};
-ghost use Rattle.cx_cword.specs.Reading.{Gives};
-ghost use Rattle.cx_tlin.specs.Lexemes.{Inside};
-ghost use Rattle.cx_tlin.specs.Reading.{got_parts, got_lin, got_relation, parts_at, lin_from, lin_at, relation_at};
+ghost use Rattle.std.specs.Prelude.{◌≡◌, map};
+ghost use Rattle.cx_reader.specs.Reading.{Gives};
+ghost use Rattle.cx_tsyn.specs.Lins.{lin_tree, relation_tree};
+ghost use Rattle.cx_tlin.specs.Lexemes as spec;
+ghost use Rattle.cx_tlin.specs.Reading.{signed_tree, signed_at, parts_at, body_tree, lin_from, body_at, lin_at, relation_at};
 
-use crate::kinds::{is_minus, relation_of, sign_of};
+use crate::kinds::{is_sign, relation_of};
 use crate::parts::read_part;
-use cx_base::List;
-use cx_cword::{Stop, span_between};
+use cx_base::{List, Span};
+use cx_cword::{Punctuator, span_between};
+use cx_reader::{Read, Stop, front, split};
 use cx_tsyn::{Lin, LinPart, Relation};
-use cx_tword::{TypeLexeme, split};
+use cx_tword::{TypeLexeme, is_mark};
 use std::alloc::Global;
 
-/// Signed parts that were read: each with whether the sign before it is a minus, the place past the
-/// last lexeme of the last of them, and the lexemes after it.
+/// A linear form without its place.
 #[derive(Debug, Drop)]
-pub struct ReadParts<'a> {
-    pub tree: List<(bool, LinPart)>,
-    pub past: u32,
-    pub rest: &'a [TypeLexeme],
+pub struct LinParts {
+    pub negative: bool,
+    pub first: LinPart,
+    pub rest: List<(bool, LinPart)>,
 }
 
-/// A linear form that was read: its tree, the place past its last lexeme, and the lexemes after it.
-#[derive(Debug, Drop)]
-pub struct ReadLin<'a> {
-    pub tree: Lin,
-    pub past: u32,
-    pub rest: &'a [TypeLexeme],
+/// From the first byte of the first of the lexemes to past the last byte of the last; where there is
+/// none, the empty place before the first byte of the text.
+pub fn span_of(lexemes: &[TypeLexeme]) -> Span
+    ensures { result ≡ spec.span_of lexemes.now }
+{
+    match lexemes {
+        [] => span_between(0, 0),
+        [o, ..] => span_between(o.span.first, lexemes[lexemes.len() - 1].span.past),
+    }
 }
 
-/// A relation that was read: its tree, the place past its last lexeme, and the lexemes after it.
-#[derive(Debug, Drop)]
-pub struct ReadRelation<'a> {
-    pub tree: Relation,
-    pub past: u32,
-    pub rest: &'a [TypeLexeme],
+// A part behind the sign.
+fn signed<'a>(
+    alloc: Global,
+    bytes: &[u8],
+    sign: TypeLexeme,
+    lexemes: &'a [TypeLexeme],
+) -> Result<Read<'a, TypeLexeme, (bool, LinPart)>, Stop>
+    ensures { Gives signed_tree result (signed_at bytes.now sign lexemes.now) }
+{
+    let x = read_part(alloc, bytes, lexemes)?;
+    Ok(Read {
+        tree: (is_mark(Punctuator::Minus, sign), x.tree),
+        rest: x.rest,
+    })
 }
 
-// The signed parts after a part that ends at `past`.
-#[tactic(auto, using(crate::proofs::Turns::parts_turn, crate::proofs::Turns::parts_none, cx_base::proofs::General::map_push))]
+// Parts, each behind its sign.
+#[tactic(auto, using(cx_reader::proofs::Turns::many_turn, cx_reader::proofs::Turns::many_none, cx_base::proofs::General::map_push))]
 fn parts<'a>(
     alloc: Global,
     bytes: &[u8],
-    past: u32,
     lexemes: &'a [TypeLexeme],
-) -> Result<ReadParts<'a>, Stop>
-    requires { Inside bytes.now lexemes.now }
-    ensures value { Gives got_parts result (parts_at bytes.now (length lexemes.now) [] past lexemes.now) }
-    ensures inside { IfOk result (λ r. Inside bytes.now r.rest.now) }
+) -> Result<Read<'a, TypeLexeme, List<(bool, LinPart)>>, Stop>
+    ensures { Gives (map signed_tree) result (parts_at bytes.now lexemes.now) }
 {
     let mut tree = List::new(alloc);
-    let mut past = past;
     let mut rest = lexemes;
-    // Each turn takes a lexeme, so there are no more turns than lexemes.
-    let mut n = lexemes.len();
+    // Each turn takes a lexeme, so there are no more turns than lexemes and one.
+    let mut n = lexemes.len() + 1;
     'each: while n > 0 {
         match split(rest) {
-            None => return Ok(ReadParts { tree, past, rest }),
-            Some((o, after)) => match sign_of(o.kind) {
-                None => return Ok(ReadParts { tree, past, rest }),
-                Some(minus) => {
-                    let x = read_part(alloc, bytes, after)?;
-                    tree.push((minus, x.tree))?;
-                    past = x.past;
+            None => return Ok(Read { tree, rest }),
+            Some((o, after)) => {
+                if is_sign(o) {
+                    let x = signed(alloc, bytes, o, after)?;
+                    tree.push(x.tree)?;
                     rest = x.rest;
+                } else {
+                    return Ok(Read { tree, rest });
                 }
-            },
+            }
         }
         n -= 1;
     }
-    Ok(ReadParts { tree, past, rest })
+    Err(Stop::Unread(rest.len()))
 }
 
-// A linear form that begins at `first`, from its first part on.
+// A linear form from its first part on.
 #[tactic(auto, unfolding(crate::specs::Reading::lin_from))]
 fn lin_from<'a>(
     alloc: Global,
     bytes: &[u8],
     negative: bool,
-    first: u32,
     lexemes: &'a [TypeLexeme],
-) -> Result<ReadLin<'a>, Stop>
-    requires { Inside bytes.now lexemes.now }
-    ensures value { Gives got_lin result (lin_from bytes.now negative first lexemes.now) }
-    ensures inside { IfOk result (λ r. Inside bytes.now r.rest.now) }
+) -> Result<Read<'a, TypeLexeme, LinParts>, Stop>
+    ensures { Gives body_tree result (lin_from bytes.now negative lexemes.now) }
 {
     let x = read_part(alloc, bytes, lexemes)?;
-    let y = parts(alloc, bytes, x.past, x.rest)?;
-    Ok(ReadLin {
-        tree: Lin {
-            span: span_between(first, y.past),
+    let y = parts(alloc, bytes, x.rest)?;
+    Ok(Read {
+        tree: LinParts {
             negative,
             first: x.tree,
             rest: y.tree,
         },
-        past: y.past,
         rest: y.rest,
     })
+}
+
+#[tactic(auto, unfolding(crate::specs::Reading::body_at))]
+fn body<'a>(
+    alloc: Global,
+    bytes: &[u8],
+    lexemes: &'a [TypeLexeme],
+) -> Result<Read<'a, TypeLexeme, LinParts>, Stop>
+    ensures { Gives body_tree result (body_at bytes.now lexemes.now) }
+{
+    match split(lexemes) {
+        None => Err(Stop::Unread(lexemes.len())),
+        Some((o, rest)) => {
+            if is_mark(Punctuator::Minus, o) {
+                lin_from(alloc, bytes, true, rest)
+            } else {
+                lin_from(alloc, bytes, false, lexemes)
+            }
+        }
+    }
 }
 
 // A linear form: parts with signs between them, of which the first may be behind a minus.
@@ -104,21 +127,20 @@ pub fn read_lin<'a>(
     alloc: Global,
     bytes: &[u8],
     lexemes: &'a [TypeLexeme],
-) -> Result<ReadLin<'a>, Stop>
-    requires { Inside bytes.now lexemes.now }
-    ensures value { Gives got_lin result (lin_at bytes.now lexemes.now) }
-    ensures inside { IfOk result (λ r. Inside bytes.now r.rest.now) }
+) -> Result<Read<'a, TypeLexeme, Lin>, Stop>
+    ensures { Gives lin_tree result (lin_at bytes.now lexemes.now) }
 {
-    match split(lexemes) {
-        None => Err(Stop::Unread),
-        Some((o, rest)) => {
-            if is_minus(o.kind) {
-                lin_from(alloc, bytes, true, o.span.first, rest)
-            } else {
-                lin_from(alloc, bytes, false, o.span.first, lexemes)
-            }
-        }
-    }
+    let x = body(alloc, bytes, lexemes)?;
+    let span = span_of(front(lexemes, x.rest));
+    Ok(Read {
+        tree: Lin {
+            span,
+            negative: x.tree.negative,
+            first: x.tree.first,
+            rest: x.tree.rest,
+        },
+        rest: x.rest,
+    })
 }
 
 // A relation of two linear forms.
@@ -127,25 +149,22 @@ pub fn read_relation<'a>(
     alloc: Global,
     bytes: &[u8],
     lexemes: &'a [TypeLexeme],
-) -> Result<ReadRelation<'a>, Stop>
-    requires { Inside bytes.now lexemes.now }
-    ensures value { Gives got_relation result (relation_at bytes.now lexemes.now) }
-    ensures inside { IfOk result (λ r. Inside bytes.now r.rest.now) }
+) -> Result<Read<'a, TypeLexeme, Relation>, Stop>
+    ensures { Gives relation_tree result (relation_at bytes.now lexemes.now) }
 {
     let x = read_lin(alloc, bytes, lexemes)?;
     match split(x.rest) {
-        None => Err(Stop::Unread),
+        None => Err(Stop::Unread(x.rest.len())),
         Some((o, rest)) => match relation_of(o.kind) {
-            None => Err(Stop::Unread),
+            None => Err(Stop::Unread(x.rest.len())),
             Some(rel) => {
                 let y = read_lin(alloc, bytes, rest)?;
-                Ok(ReadRelation {
+                Ok(Read {
                     tree: Relation {
                         left: x.tree,
                         rel,
                         right: y.tree,
                     },
-                    past: y.past,
                     rest: y.rest,
                 })
             }

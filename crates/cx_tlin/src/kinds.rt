@@ -6,53 +6,13 @@ ghost use Rattle.cx_tlin.specs.Lins as grammar;
 
 use cx_cword::Punctuator;
 use cx_tsyn::SRel;
-use cx_tword::TypeLexemeKind;
+use cx_tword::{TypeLexeme, TypeLexemeKind, is_mark};
 
-pub fn is_name(kind: TypeLexemeKind) -> bool
-    ensures { result ≡ spec.is_name kind }
+/// Whether the lexeme is a plus or a minus.
+pub fn is_sign(lexeme: TypeLexeme) -> bool
+    ensures { result ≡ spec.is_sign lexeme }
 {
-    match kind {
-        TypeLexemeKind::Name => true,
-        _ => false,
-    }
-}
-
-pub fn is_star(kind: TypeLexemeKind) -> bool
-    ensures { result ≡ spec.is_star kind }
-{
-    match kind {
-        TypeLexemeKind::Punctuator(Punctuator::Star) => true,
-        _ => false,
-    }
-}
-
-pub fn is_comma(kind: TypeLexemeKind) -> bool
-    ensures { result ≡ spec.is_comma kind }
-{
-    match kind {
-        TypeLexemeKind::Punctuator(Punctuator::Comma) => true,
-        _ => false,
-    }
-}
-
-pub fn is_minus(kind: TypeLexemeKind) -> bool
-    ensures { result ≡ spec.is_minus kind }
-{
-    match kind {
-        TypeLexemeKind::Punctuator(Punctuator::Minus) => true,
-        _ => false,
-    }
-}
-
-/// Whether the sign is a minus; None where it is neither that nor a plus.
-pub fn sign_of(kind: TypeLexemeKind) -> Option<bool>
-    ensures { result ≡ spec.sign_of kind }
-{
-    match kind {
-        TypeLexemeKind::Punctuator(Punctuator::Plus) => Some(false),
-        TypeLexemeKind::Punctuator(Punctuator::Minus) => Some(true),
-        _ => None,
-    }
+    is_mark(Punctuator::Plus, lexeme) || is_mark(Punctuator::Minus, lexeme)
 }
 
 fn compared_by(mark: Punctuator) -> Option<SRel>

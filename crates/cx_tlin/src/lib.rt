@@ -1,8 +1,8 @@
 //! Words, linear forms and relations of type files: the grammar, and its readers.
 //!
-//! A reader takes the longest front of the lexemes that it can tell by one lexeme of lookahead. It
-//! gives the tree, the place past the last lexeme of the front in bytes from the first byte of the
-//! text, and the lexemes after it. It answers `NoMemory` where memory ran out.
+//! A reader reads a front of the lexemes by one lexeme of lookahead. It gives the tree and the lexemes
+//! after the front. Else it answers how many lexemes are left from the first on such that no lexemes that
+//! begin with those up to and with it have such a front, or that memory ran out.
 #![tactic(auto)]
 
 mod forms;
@@ -11,7 +11,6 @@ mod lists;
 mod parts;
 mod readers;
 
-pub use forms::{ReadLin, ReadRelation};
-pub use lists::{ReadLins, ReadNames, ReadRelations};
-pub use parts::{ReadName, ReadPart, word};
+pub use forms::span_of;
+pub use parts::word;
 pub use readers::{lin, lins, name, names, part, relation, relations};

@@ -1,172 +1,113 @@
-ghost use Rattle.std.specs.Prelude.{IfOk};
-ghost use Rattle.cx_cword.specs.Reading.{Gives};
-ghost use Rattle.cx_tlin.specs.Lexemes.{Inside};
-ghost use Rattle.cx_tlin.specs.Reading.{got_names, got_lins, got_relations, names_at, lins_at, relations_at};
+ghost use Rattle.std.specs.Prelude.{map};
+ghost use Rattle.cx_reader.specs.Reading.{Gives};
+ghost use Rattle.cx_tsyn.specs.Words.{word_tree};
+ghost use Rattle.cx_tsyn.specs.Lins.{lin_tree, relation_tree};
+ghost use Rattle.cx_tlin.specs.Reading.{names_at, lins_at, relations_at};
 
 use crate::forms::{read_lin, read_relation};
-use crate::kinds::is_comma;
 use crate::parts::read_name;
 use cx_base::List;
-use cx_cword::Stop;
+use cx_cword::Punctuator;
+use cx_reader::{Read, Stop, split};
 use cx_tsyn::{Lin, Relation, Word};
-use cx_tword::{TypeLexeme, split};
+use cx_tword::{TypeLexeme, is_mark};
 use std::alloc::Global;
 
-/// Names that were read: their trees in order, the place past the last lexeme of the last of them,
-/// and the lexemes after it.
-#[derive(Debug, Drop)]
-pub struct ReadNames<'a> {
-    pub tree: List<Word>,
-    pub past: u32,
-    pub rest: &'a [TypeLexeme],
-}
-
-/// Linear forms that were read: their trees in order, the place past the last lexeme of the last of them,
-/// and the lexemes after it.
-#[derive(Debug, Drop)]
-pub struct ReadLins<'a> {
-    pub tree: List<Lin>,
-    pub past: u32,
-    pub rest: &'a [TypeLexeme],
-}
-
-/// Relations that were read: their trees in order, the place past the last lexeme of the last of them,
-/// and the lexemes after it.
-#[derive(Debug, Drop)]
-pub struct ReadRelations<'a> {
-    pub tree: List<Relation>,
-    pub past: u32,
-    pub rest: &'a [TypeLexeme],
-}
-
 // Names with commas between them, at least one.
-#[tactic(auto, using(crate::proofs::Turns::list_turn, crate::proofs::Turns::list_none, cx_base::proofs::General::map_push))]
+#[tactic(auto, using(cx_reader::proofs::Turns::many_turn, cx_reader::proofs::Turns::many_none, cx_base::proofs::General::map_push))]
 pub fn read_names<'a>(
     alloc: Global,
     bytes: &[u8],
     lexemes: &'a [TypeLexeme],
-) -> Result<ReadNames<'a>, Stop>
-    requires { Inside bytes.now lexemes.now }
-    ensures value { Gives got_names result (names_at bytes.now lexemes.now) }
-    ensures inside { IfOk result (λ r. Inside bytes.now r.rest.now) }
+) -> Result<Read<'a, TypeLexeme, List<Word>>, Stop>
+    ensures { Gives (map word_tree) result (names_at bytes.now lexemes.now) }
 {
+    let x = read_name(alloc, bytes, lexemes)?;
     let mut tree = List::new(alloc);
-    let mut rest = lexemes;
-    // Each turn takes a lexeme, so there are no more turns than lexemes.
-    let mut n = lexemes.len();
+    tree.push(x.tree)?;
+    let mut rest = x.rest;
+    // Each turn takes a lexeme, so there are no more turns than lexemes and one.
+    let mut n = rest.len() + 1;
     'each: while n > 0 {
-        let x = read_name(alloc, bytes, rest)?;
-        tree.push(x.tree)?;
-        let past = x.past;
-        match split(x.rest) {
-            None => {
-                return Ok(ReadNames {
-                    tree,
-                    past,
-                    rest: x.rest,
-                });
-            }
-            Some((c, after)) => {
-                if is_comma(c.kind) {
-                    rest = after;
+        match split(rest) {
+            None => return Ok(Read { tree, rest }),
+            Some((o, after)) => {
+                if is_mark(Punctuator::Comma, o) {
+                    let y = read_name(alloc, bytes, after)?;
+                    tree.push(y.tree)?;
+                    rest = y.rest;
                 } else {
-                    return Ok(ReadNames {
-                        tree,
-                        past,
-                        rest: x.rest,
-                    });
+                    return Ok(Read { tree, rest });
                 }
             }
         }
         n -= 1;
     }
-    Err(Stop::Unread)
+    Err(Stop::Unread(rest.len()))
 }
 
 // Linear forms with commas between them, at least one.
-#[tactic(auto, using(crate::proofs::Turns::list_turn, crate::proofs::Turns::list_none, cx_base::proofs::General::map_push))]
+#[tactic(auto, using(cx_reader::proofs::Turns::many_turn, cx_reader::proofs::Turns::many_none, cx_base::proofs::General::map_push))]
 pub fn read_lins<'a>(
     alloc: Global,
     bytes: &[u8],
     lexemes: &'a [TypeLexeme],
-) -> Result<ReadLins<'a>, Stop>
-    requires { Inside bytes.now lexemes.now }
-    ensures value { Gives got_lins result (lins_at bytes.now lexemes.now) }
-    ensures inside { IfOk result (λ r. Inside bytes.now r.rest.now) }
+) -> Result<Read<'a, TypeLexeme, List<Lin>>, Stop>
+    ensures { Gives (map lin_tree) result (lins_at bytes.now lexemes.now) }
 {
+    let x = read_lin(alloc, bytes, lexemes)?;
     let mut tree = List::new(alloc);
-    let mut rest = lexemes;
-    // Each turn takes a lexeme, so there are no more turns than lexemes.
-    let mut n = lexemes.len();
+    tree.push(x.tree)?;
+    let mut rest = x.rest;
+    // Each turn takes a lexeme, so there are no more turns than lexemes and one.
+    let mut n = rest.len() + 1;
     'each: while n > 0 {
-        let x = read_lin(alloc, bytes, rest)?;
-        tree.push(x.tree)?;
-        let past = x.past;
-        match split(x.rest) {
-            None => {
-                return Ok(ReadLins {
-                    tree,
-                    past,
-                    rest: x.rest,
-                });
-            }
-            Some((c, after)) => {
-                if is_comma(c.kind) {
-                    rest = after;
+        match split(rest) {
+            None => return Ok(Read { tree, rest }),
+            Some((o, after)) => {
+                if is_mark(Punctuator::Comma, o) {
+                    let y = read_lin(alloc, bytes, after)?;
+                    tree.push(y.tree)?;
+                    rest = y.rest;
                 } else {
-                    return Ok(ReadLins {
-                        tree,
-                        past,
-                        rest: x.rest,
-                    });
+                    return Ok(Read { tree, rest });
                 }
             }
         }
         n -= 1;
     }
-    Err(Stop::Unread)
+    Err(Stop::Unread(rest.len()))
 }
 
 // Relations with commas between them, at least one.
-#[tactic(auto, using(crate::proofs::Turns::list_turn, crate::proofs::Turns::list_none, cx_base::proofs::General::map_push))]
+#[tactic(auto, using(cx_reader::proofs::Turns::many_turn, cx_reader::proofs::Turns::many_none, cx_base::proofs::General::map_push))]
 pub fn read_relations<'a>(
     alloc: Global,
     bytes: &[u8],
     lexemes: &'a [TypeLexeme],
-) -> Result<ReadRelations<'a>, Stop>
-    requires { Inside bytes.now lexemes.now }
-    ensures value { Gives got_relations result (relations_at bytes.now lexemes.now) }
-    ensures inside { IfOk result (λ r. Inside bytes.now r.rest.now) }
+) -> Result<Read<'a, TypeLexeme, List<Relation>>, Stop>
+    ensures { Gives (map relation_tree) result (relations_at bytes.now lexemes.now) }
 {
+    let x = read_relation(alloc, bytes, lexemes)?;
     let mut tree = List::new(alloc);
-    let mut rest = lexemes;
-    // Each turn takes a lexeme, so there are no more turns than lexemes.
-    let mut n = lexemes.len();
+    tree.push(x.tree)?;
+    let mut rest = x.rest;
+    // Each turn takes a lexeme, so there are no more turns than lexemes and one.
+    let mut n = rest.len() + 1;
     'each: while n > 0 {
-        let x = read_relation(alloc, bytes, rest)?;
-        tree.push(x.tree)?;
-        let past = x.past;
-        match split(x.rest) {
-            None => {
-                return Ok(ReadRelations {
-                    tree,
-                    past,
-                    rest: x.rest,
-                });
-            }
-            Some((c, after)) => {
-                if is_comma(c.kind) {
-                    rest = after;
+        match split(rest) {
+            None => return Ok(Read { tree, rest }),
+            Some((o, after)) => {
+                if is_mark(Punctuator::Comma, o) {
+                    let y = read_relation(alloc, bytes, after)?;
+                    tree.push(y.tree)?;
+                    rest = y.rest;
                 } else {
-                    return Ok(ReadRelations {
-                        tree,
-                        past,
-                        rest: x.rest,
-                    });
+                    return Ok(Read { tree, rest });
                 }
             }
         }
         n -= 1;
     }
-    Err(Stop::Unread)
+    Err(Stop::Unread(rest.len()))
 }

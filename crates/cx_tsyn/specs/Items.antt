@@ -19,6 +19,7 @@ use Rattle.cx_tsyn.specs.declared.item.Surface.{Surface}
 
 pub record RegionItemTree : Type 0 where
   pub span : Span
+  pub shared : Bool
   pub name : WordTree
   pub params : List WordTree
   pub body : STypeTree
@@ -72,7 +73,7 @@ pub record SurfaceTree : Type 0 where
   pub items : List TypeItemTree
 
 abbrev pub region_tree : RegionItem → RegionItemTree
-region_tree r = record { span = r.span; name = word_tree r.name; params = map word_tree r.params; body = stype_tree r.body }
+region_tree r = record { span = r.span; shared = r.shared; name = word_tree r.name; params = map word_tree r.params; body = stype_tree r.body }
 
 abbrev pub result_tree : SResult → SResultTree
 result_tree r = record { binders = map word_tree r.binders; cell = cell_tree r.cell; conds = map relation_tree r.conds }

@@ -25,11 +25,13 @@ pub enum TypeItem {
     Global(GlobalItem),
 }
 
-/// `region N(params) = type;`
+/// `shared region N(params) = type;`
 #[derive(Debug, Drop)]
 pub struct RegionItem {
-    /// From `region` to the semicolon.
+    /// From `shared`, or where it does not stand from `region`, to the semicolon.
     pub span: Span,
+    /// Whether others may rewrite the bytes of such regions: whether `shared` stands.
+    pub shared: bool,
     /// The name of the region.
     pub name: Word,
     /// The parameters in order, none where no parentheses stand.

@@ -16,13 +16,13 @@ numbers = refl
 
 -- words without and with a size
 words :
-    map (kind_of t.Name) (codes "region" ∷ codes "any" ∷ codes "any1" ∷ codes "any00012" ∷ codes "any4096" ∷ codes "u08" ∷ codes "s4" ∷ [])
-    ≡ l.Word w.Region ∷ l.Word w.Any ∷ l.AnyBytes 1 ∷ l.AnyBytes 12 ∷ l.AnyBytes 4096 ∷ l.Unsigned 8 ∷ l.Signed 4 ∷ []
+    map (kind_of t.Name) (codes "shared" ∷ codes "region" ∷ codes "any" ∷ codes "any1" ∷ codes "any00012" ∷ codes "any4096" ∷ codes "u08" ∷ codes "s4" ∷ [])
+    ≡ l.Word w.Shared ∷ l.Word w.Region ∷ l.Word w.Any ∷ l.AnyBytes 1 ∷ l.AnyBytes 12 ∷ l.AnyBytes 4096 ∷ l.Unsigned 8 ∷ l.Signed 4 ∷ []
 unfolding type_words type_word_of number_in number_after is_digit_of digit_value
 words = refl
 
 -- sizes that there are not
-other_sizes : map (kind_of t.Name) (codes "any0" ∷ codes "any4097" ∷ codes "u3" ∷ codes "s16" ∷ codes "u18446744073709551624" ∷ []) ≡ l.Other ∷ l.Other ∷ l.Other ∷ l.Other ∷ l.Other ∷ []
+other_sizes : map (kind_of t.Name) (codes "any0" ∷ codes "any4097" ∷ codes "u3" ∷ codes "s16" ∷ codes "u18446744073709551624" ∷ []) ≡ l.OtherSize ∷ l.OtherSize ∷ l.OtherSize ∷ l.OtherSize ∷ l.OtherSize ∷ []
 unfolding type_words type_word_of number_in number_after is_digit_of digit_value
 other_sizes = refl
 

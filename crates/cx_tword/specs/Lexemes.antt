@@ -16,7 +16,7 @@ use Rattle.cx_tword.specs.Words.{type_word_of, number_after}
 
 -- `any` and a number K: K bytes, from 1 to 4096
 abbrev pub any_kind : ℕ → TypeLexemeKind
-any_kind k = if nat_le 1 k && nat_le k 4096 then l.AnyBytes k else l.Other
+any_kind k = if nat_le 1 k && nat_le k 4096 then l.AnyBytes k else l.OtherSize
 
 -- the sizes of the integers of C, in bytes
 abbrev pub is_int_size : ℕ → Bool
@@ -24,11 +24,11 @@ is_int_size k = (k == 1) || (k == 2) || (k == 4) || (k == 8)
 
 -- `u` and a number K: an unsigned number of K bytes
 abbrev pub unsigned_kind : ℕ → TypeLexemeKind
-unsigned_kind k = if is_int_size k then l.Unsigned k else l.Other
+unsigned_kind k = if is_int_size k then l.Unsigned k else l.OtherSize
 
 -- `s` and a number K: a signed number of K bytes
 abbrev pub signed_kind : ℕ → TypeLexemeKind
-signed_kind k = if is_int_size k then l.Signed k else l.Other
+signed_kind k = if is_int_size k then l.Signed k else l.OtherSize
 
 -- a reserved word, else `any`, `u` or `s` and a number, else a name
 abbrev pub name_kind : Option TypeWord → (any unsigned signed : Option ℕ) → TypeLexemeKind

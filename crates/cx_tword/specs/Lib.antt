@@ -1,3 +1,3 @@
 pub mod Words
 pub mod Lexemes
-pub mod Reading
+pub mod Marks

@@ -9,7 +9,7 @@ use Rattle.cx_tword.specs.declared.word.TypeWord.TheVariants as w
 -- the words without a size
 unfoldable pub type_words : List (List ℕ × TypeWord)
 type_words =
-    (codes "region", w.Region) ∷ (codes "some", w.Some) ∷ (codes "of", w.Of) ∷ (codes "struct", w.Struct) ∷
+    (codes "shared", w.Shared) ∷ (codes "region", w.Region) ∷ (codes "some", w.Some) ∷ (codes "of", w.Of) ∷ (codes "struct", w.Struct) ∷
     (codes "union", w.Union) ∷ (codes "where", w.Where) ∷ (codes "cases", w.Cases) ∷ (codes "when", w.When) ∷
     (codes "any", w.Any) ∷ (codes "val", w.Val) ∷ (codes "ptr", w.Ptr) ∷ (codes "null", w.Null) ∷
     (codes "as", w.As) ∷ (codes "fn", w.Fn) ∷ (codes "alloc", w.Alloc) ∷ (codes "for", w.For) ∷

@@ -19,13 +19,14 @@ pub enum TypeLexemeKind {
     Unsigned(u8),
     /// `sK`: a signed number of K bytes, where K is 1, 2, 4 or 8.
     Signed(u8),
+    /// `any`, `u` or `s` with another size, as `any0` and `u3`: a reserved word that is no cell.
+    OtherSize,
     /// A name: a word that is not reserved.
     Name,
     /// An integer constant of C (C11 6.4.4.1) with its value, which is from 0 up to below 2^64.
     Number(i128),
     Punctuator(Punctuator),
-    /// What the grammar has no place for: `any`, `u` or `s` with another size, as `any0` and `u3`, a
-    /// constant that is no integer, or a string literal.
+    /// What the grammar has no place for: a constant that is no integer, or a string literal.
     Other,
 }
 
@@ -42,7 +43,7 @@ fn any_kind(size: u32) -> TypeLexemeKind
     if 1 <= size && size <= 4096 {
         TypeLexemeKind::AnyBytes(size)
     } else {
-        TypeLexemeKind::Other
+        TypeLexemeKind::OtherSize
     }
 }
 
@@ -51,7 +52,7 @@ fn unsigned_kind(size: u32) -> TypeLexemeKind
 {
     match size {
         1 | 2 | 4 | 8 => TypeLexemeKind::Unsigned(size as u8),
-        _ => TypeLexemeKind::Other,
+        _ => TypeLexemeKind::OtherSize,
     }
 }
 
@@ -60,7 +61,7 @@ fn signed_kind(size: u32) -> TypeLexemeKind
 {
     match size {
         1 | 2 | 4 | 8 => TypeLexemeKind::Signed(size as u8),
-        _ => TypeLexemeKind::Other,
+        _ => TypeLexemeKind::OtherSize,
     }
 }
 

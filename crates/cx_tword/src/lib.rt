@@ -3,10 +3,10 @@
 #![tactic(auto)]
 
 mod lexeme;
-mod reading;
+mod mark;
 mod size;
 mod word;
 
 pub use lexeme::{TypeLexeme, TypeLexemeKind, type_lexemes};
-pub use reading::{next_mark, next_name, next_number, next_type_word, split};
+pub use mark::{is_mark, is_name, is_word};
 pub use word::{TypeWord, is_c_word, type_word_of};

@@ -8,6 +8,7 @@ use cx_cword::{keyword_of, look_up};
 /// `any12` and `u8`, stand beside these in `TypeLexemeKind`.
 #[derive(Clone, Copy, Debug, PartialEq, Eq)]
 pub enum TypeWord {
+    Shared,
     Region,
     Some,
     Of,
@@ -30,7 +31,8 @@ pub enum TypeWord {
     Void,
 }
 
-const TYPE_WORDS: [(&[u8], TypeWord); 20] = [
+const TYPE_WORDS: [(&[u8], TypeWord); 21] = [
+    (b"shared", TypeWord::Shared),
     (b"region", TypeWord::Region),
     (b"some", TypeWord::Some),
     (b"of", TypeWord::Of),

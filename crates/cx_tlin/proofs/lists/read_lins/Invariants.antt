@@ -1,15 +1,14 @@
-use Rattle.std.proofs.Common.{◌≡◌, []}
-use Rattle.std.specs.Prelude.{length, map}
+use Rattle.std.proofs.Common.{◌≡◌}
+use Rattle.std.specs.Prelude.{map}
+use Rattle.cx_cword.specs.declared.word.Punctuator.TheVariants as p
 use Rattle.cx_tsyn.specs.Lins.{lin_tree}
-use Rattle.cx_tlin.specs.Lexemes.{Inside}
-use Rattle.cx_tlin.specs.Reading.{lin_at, list_at}
+use Rattle.cx_tword.specs.Marks.{is_mark}
+use Rattle.cx_reader.specs.Answers.{many_at, behind_at}
+use Rattle.cx_tlin.specs.Reading.{lin_at, lins_at}
 use Rattle.cx_tlin.proofs.lists.read_lins.Given as goal
 
 abbrev pub invariant-each : goal.invariant-each
-invariant-each l = record {
-  told : list_at (lin_at l.bytes) l.n (map lin_tree l.tree) l.rest ≡ list_at (lin_at l.bytes) (length l.lexemes) [] l.lexemes;
-  inside : Inside l.bytes l.rest;
-}
+invariant-each l = many_at (is_mark p.Comma) (behind_at (lin_at l.bytes)) l.n (map lin_tree l.tree) l.rest ≡ lins_at l.fn.bytes l.fn.lexemes
 
 abbrev pub decreases-each : goal.decreases-each
 decreases-each l = l.n
