@@ -1,0 +1,10 @@
+//! Cells of type files: the grammar, and its reader.
+//!
+//! A cell is what stands for the bytes of one number or address, or for any bytes.
+#![tactic(auto)]
+
+mod holds;
+mod pointer;
+mod reader;
+
+pub use reader::cell;
