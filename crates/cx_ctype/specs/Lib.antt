@@ -1,0 +1,4 @@
+pub mod Operations
+pub mod ValueTypes
+pub mod Rules
+pub mod Accesses
