@@ -1,0 +1,4 @@
+pub mod Known
+pub mod Valid
+pub mod Run
+pub mod Stands
