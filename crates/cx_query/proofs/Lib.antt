@@ -1,0 +1,4 @@
+pub mod Comes
+pub mod RangeLaws
+pub mod PointLaws
+pub mod KindLaws

@@ -1,0 +1,4 @@
+pub mod Shown
+pub mod Range
+pub mod Pointing
+pub mod Kinds
