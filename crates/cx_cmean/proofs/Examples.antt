@@ -23,7 +23,7 @@ at n = record { first = n; past = n + 1; ordered = omega arith }
 -- regions of type 7 are shared
 abbrev program : Program
 program = record {
-  unit = record { tags = []; decls = [] };
+  unit = record { known = record { tags = []; typedefs = []; consts = []; enums = [] }; decls = [] };
   oracle = record {
     is_shared = λ n. n == 7;
     is_memory = λ rs. true;

@@ -52,12 +52,20 @@ pub data Left : Type 0 where
   to_local : ℕ → Left
   to_memory : (address : ℤ) → Left
 
-abbrev pub left_kind : Program → Locals → ExprTree → ExprKindTree → World → Did Left
-left_kind p ls l (local x) w = gives (to_local x) w
-left_kind p ls l _ w = go_on (place p ls l w) (λ a w. gives (to_memory a) w)
+abbrev pub kind_local : ExprKindTree → Option ℕ
+kind_local (local x) = Some x
+kind_local k = None
+
+-- the local that the expression is, if it is one
+abbrev pub local_of : ExprTree → Option ℕ
+local_of l = kind_local (kind_of l)
+
+abbrev pub left_at : Program → Locals → ExprTree → Option ℕ → World → Did Left
+left_at p ls l (Some x) w = gives (to_local x) w
+left_at p ls l None w = go_on (place p ls l w) (λ a w. gives (to_memory a) w)
 
 abbrev pub left : Program → Locals → ExprTree → World → Did Left
-left p ls l w = left_kind p ls l (kind_of l) w
+left p ls l w = left_at p ls l (local_of l) w
 
 -- the number that stands there
 abbrev pub read_left : Program → Locals → ExprTree → Left → World → Did ℤ
@@ -76,10 +84,10 @@ updated p s op t u x y w = operate p.unit s op t u x y w
 
 -- ---- effects
 
--- the operand of a cast to void is evaluated, and any other value
-abbrev pub evaluated : Program → Locals → ExprTree → World → Did ℤ
-evaluated p ls (node s t (cast void x)) w = eval p ls x w
-evaluated p ls e w = eval p ls e w
+-- the operand of a cast to void, and any other expression itself
+abbrev pub operand_of : ExprTree → ExprTree
+operand_of (node s t (cast void x)) = x
+operand_of e = e
 
 -- the locals after an effect: of an assignment the right side comes first, then the place of the left side, then its number if that is used
 abbrev pub done : Program → Locals → EffectTree → World → Did Locals
@@ -88,7 +96,7 @@ done p ls (update op l e s) w =
     go_on (eval p ls e w)
     (λ y w. go_on (left p ls l w) (λ to w. go_on (read_left p ls l to w) (λ x w. go_on (updated p s op (type_of l) (value_type (type_of e)) x y w) (λ v w. write_left p ls l to v w))))
 done p ls (call_alone c) w = go_on (called p ls c None w) (λ v w. gives ls w)
-done p ls (value_alone e) w = go_on (evaluated p ls e w) (λ v w. gives ls w)
+done p ls (value_alone e) w = go_on (eval p ls (operand_of e) w) (λ v w. gives ls w)
 
 -- the locals after effects in order
 abbrev pub all_done : Program → Locals → List EffectTree → World → Did Locals

@@ -1,5 +1,5 @@
 -- Conversions, and operators on values of scalar types. An address is a number of 8 bytes.
-use Rattle.std.specs.Prelude.{ℕ, ℤ, pos, ◌+ℤ◌, ◌-ℤ◌, ◌*ℤ◌, Bool, not, ◌&&◌, ◌==◌, if◌then◌else◌, Option}
+use Rattle.std.specs.Prelude.{ℕ, ℤ, pos, ◌+ℤ◌, ◌-ℤ◌, ◌*ℤ◌, int_le, int_lt, Bool, not, ◌&&◌, ◌==◌, if◌then◌else◌, Option}
 use Rattle.std.specs.Ordering.{int_eq}
 use Rattle.cx_base.specs.declared.fault.FaultKind.TheVariants as fault
 use Rattle.cx_base.specs.declared.number.CInt.{CInt}
@@ -12,8 +12,9 @@ use Rattle.cx_ctree.specs.declared.expr.Binary.{Binary}
 use Rattle.cx_ctree.specs.declared.expr.Binary.TheVariants as b
 use Rattle.cx_ctree.specs.declared.expr.Unary.{Unary}
 use Rattle.cx_ctree.specs.declared.expr.Unary.TheVariants as u
-use Rattle.cx_cmean.specs.Program.{Declared, unit_in}
-use Rattle.cx_world.specs.World.{World, Did, gives, go_on, number_or}
+use Rattle.cx_cmean.specs.Program.{unit_in}
+use Rattle.cx_sname.specs.File.{Declared}
+use Rattle.cx_world.specs.World.{World, Did, gives, halts, go_on, number_or, blocked}
 
 -- ---- types of values
 
@@ -82,11 +83,29 @@ moved_back x i n = converted unsigned_long (x -ℤ i *ℤ pos n)
 abbrev pub distance : Span → ℤ → ℤ → ℕ → World → Did ℤ
 distance s x y n w = number_or fault.Divisor s (operated b.Div signed_long (converted signed_long (x -ℤ y)) (pos n)) w
 
--- an operator on two values of these types; pointers compare as numbers
+-- the type in which values of these types are compared; pointers compare as numbers
+abbrev pub compared_in : TypeTree → TypeTree → CInt
+compared_in (int t) (int u) = common t u
+compared_in t u = unsigned_long
+
+-- the two numbers that are compared
+abbrev pub first_in : TypeTree → TypeTree → ℤ → ℤ
+first_in t u x = as_type (number_type t) (compared_in t u) x
+
+abbrev pub second_in : TypeTree → TypeTree → ℤ → ℤ
+second_in t u y = as_type (number_type u) (compared_in t u) y
+
+-- an operator on two values of these types, but && and ||
 abbrev pub operate : Declared → Span → Binary → TypeTree → TypeTree → ℤ → ℤ → World → Did ℤ
+operate d s b.Lt t u x y w = gives (truth (int_lt (first_in t u x) (second_in t u y))) w
+operate d s b.Gt t u x y w = gives (truth (int_lt (second_in t u y) (first_in t u x))) w
+operate d s b.Le t u x y w = gives (truth (int_le (first_in t u x) (second_in t u y))) w
+operate d s b.Ge t u x y w = gives (truth (int_le (second_in t u y) (first_in t u x))) w
+operate d s b.Eq t u x y w = gives (truth (int_eq (first_in t u x) (second_in t u y))) w
+operate d s b.Ne t u x y w = gives (truth (not (int_eq (first_in t u x) (second_in t u y)))) w
 operate d s op (int t) (int u) x y w = on_integers s op t u x y w
 operate d s b.Add (pointer t) (int u) x y w = gives (moved x (as_type u unsigned_long y) (unit_in d t)) w
 operate d s b.Add (int t) (pointer u) x y w = gives (moved y (as_type t unsigned_long x) (unit_in d u)) w
 operate d s b.Sub (pointer t) (int u) x y w = gives (moved_back x (as_type u unsigned_long y) (unit_in d t)) w
 operate d s b.Sub (pointer t) (pointer u) x y w = distance s x y (unit_in d t) w
-operate d s op t u x y w = number_or fault.Divisor s (operated op unsigned_long (as_type (number_type t) unsigned_long x) (as_type (number_type u) unsigned_long y)) w
+operate d s op t u x y w = halts blocked w

@@ -5,8 +5,7 @@ use Rattle.std.proofs.Common.{arith}
 use Rattle.std.specs.List.{list_any}
 use Rattle.cx_base.specs.declared.fault.FaultKind.TheVariants as fault
 use Rattle.cx_base.specs.declared.span.Span.{Span}
-use Rattle.cx_cconst.specs.Constants.{number_type, value_in}
-use Rattle.cx_cname.specs.Known.{Known}
+use Rattle.cx_cconst.specs.Constants.{number_type, constant_in}
 use Rattle.cx_ctree.specs.Conversions.{promoted}
 use Rattle.cx_ctree.specs.Decls.{TypedTree}
 use Rattle.cx_ctree.specs.Exprs.{ExprTree, RhsTree, EffectTree, type_of}
@@ -15,7 +14,8 @@ use Rattle.cx_ctree.specs.Types.{TypeTree, void}
 use Rattle.cx_cmean.specs.Effects.{right, done, all_done}
 use Rattle.cx_cmean.specs.Expressions.{eval}
 use Rattle.cx_cmean.specs.Numbers.{number_of, as_type, is_zero}
-use Rattle.cx_cmean.specs.Program.{Declared, Program}
+use Rattle.cx_cmean.specs.Program.{Program}
+use Rattle.cx_sname.specs.File.{Declared}
 use Rattle.cx_world.specs.Calls.{leave}
 use Rattle.cx_world.specs.World.{World, Locals, Halt, Did, gives, halts, go_on, faulted, turns_spent}
 
@@ -99,13 +99,9 @@ abbrev pub or_none : Option ℤ → ℤ
 or_none None = pos 0
 or_none (Some v) = v
 
--- what constants are read among: the structs and unions of the unit, since no names are left
-abbrev pub known_tags : Declared → Known
-known_tags d = record { tags = d.tags; typedefs = []; consts = []; enums = [] }
-
 -- the label's constant (C11 6.6), as a number of the switch's promoted type
 abbrev pub label_number : Declared → TypeTree → ExprTree → ℤ
-label_number d t e = as_type (number_of e) (promoted (number_type t)) (or_none (value_in (known_tags d) e))
+label_number d t e = as_type (number_of e) (promoted (number_type t)) (or_none (constant_in d.known e))
 
 abbrev pub is_label : Declared → TypeTree → ℤ → Option ExprTree → Bool
 is_label d t v None = false

@@ -5,7 +5,7 @@ use Rattle.cx_base.specs.declared.span.Span.{Span}
 use Rattle.cx_base.specs.declared.token.Token.{Token}
 use Rattle.cx_cconst.specs.Constants.{number_type}
 use Rattle.cx_cmean.specs.Numbers.{number_of}
-use Rattle.cx_cmean.specs.Program.{Declared}
+use Rattle.cx_sname.specs.File.{Declared}
 use Rattle.cx_cmean.specs.Statements.{label_number, is_default}
 use Rattle.cx_ctree.specs.Conversions.{promoted}
 use Rattle.cx_ctree.specs.Exprs.{ExprTree, RhsTree, EffectTree, span_of, type_of}
@@ -14,10 +14,10 @@ use Rattle.cx_ctree.specs.Types.{TypeTree}
 use Rattle.cx_goto.specs.Trees.{const, copy, unset}
 use Rattle.cx_goto.specs.declared.code.End.TheVariants.{Jump, Branch, Return}
 use Rattle.cx_goto.specs.declared.code.Rel.TheVariants.{Eq}
-use Rattle.cx_lower.specs.Effects.{right_code, effect_code}
-use Rattle.cx_lower.specs.Items.{Item, start, does, converts, first_token}
-use Rattle.cx_lower.specs.Places.{last, effect_last, effects_last, condition_last, labels_last, all_labels_last, stmt_last, stmts_last, groups_last}
-use Rattle.cx_lower.specs.Values.{code_of}
+use Rattle.cx_lcode.specs.Effects.{right_code, effect_code}
+use Rattle.cx_lcode.specs.Items.{Item, start, does, converts, first_token}
+use Rattle.cx_lcode.specs.Places.{last, effect_last, effects_last, condition_last, labels_last, all_labels_last, stmt_last, stmts_last, groups_last}
+use Rattle.cx_lcode.specs.Values.{code_of}
 
 -- what the statements of a function are lowered by: what the unit declares, its tokens, and the type of the function's result
 pub record Setting : Type 0 where

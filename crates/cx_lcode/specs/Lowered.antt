@@ -3,7 +3,7 @@ use Rattle.std.specs.Prelude.{ℕ, ◌+◌, max, List, [], ◌∷◌, length, Op
 use Rattle.cx_base.specs.declared.number.CInt.{CInt}
 use Rattle.cx_base.specs.declared.token.Token.{Token}
 use Rattle.cx_cconst.specs.Constants.{number_type}
-use Rattle.cx_cmean.specs.Program.{Declared}
+use Rattle.cx_sname.specs.File.{Declared}
 use Rattle.cx_cmean.specs.Statements.{closing_brace}
 use Rattle.cx_ctree.specs.Decls.{TypedTree}
 use Rattle.cx_ctree.specs.Stmts.{stmt_span}
@@ -11,8 +11,8 @@ use Rattle.cx_ctree.specs.Types.{TypeTree, void}
 use Rattle.cx_goto.specs.Trees.{InstrTree, const, copy, unset, global, bin, conv, load, store, call, LineTree, BlockTree, CodeTree}
 use Rattle.cx_goto.specs.declared.code.End.{End}
 use Rattle.cx_goto.specs.declared.code.End.TheVariants.{Branch, Return, Missing}
-use Rattle.cx_lower.specs.Items.{blocks_of}
-use Rattle.cx_lower.specs.Statements.{Setting, stmt_code}
+use Rattle.cx_lcode.specs.Items.{blocks_of}
+use Rattle.cx_lcode.specs.Statements.{Setting, stmt_code}
 
 -- the type of the number that a function gives
 abbrev pub result_of : TypeTree → Option CInt

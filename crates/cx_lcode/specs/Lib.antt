@@ -5,3 +5,5 @@ pub mod Values
 pub mod Effects
 pub mod Statements
 pub mod Lowered
+pub mod Starts
+pub mod Needs

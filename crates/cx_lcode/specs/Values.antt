@@ -5,8 +5,9 @@ use Rattle.cx_base.specs.declared.number.CInt.{CInt}
 use Rattle.cx_base.specs.declared.span.Span.{Span}
 use Rattle.cx_cconst.specs.Constants.{number_type, converted}
 use Rattle.cx_cmean.specs.Expressions.{target}
-use Rattle.cx_cmean.specs.Numbers.{value_type, number_of, applied_in, right_in}
-use Rattle.cx_cmean.specs.Program.{Declared, size_in, unit_in, offset_in}
+use Rattle.cx_cmean.specs.Numbers.{value_type, number_of, applied_in, right_in, compared_in}
+use Rattle.cx_cmean.specs.Program.{size_in, unit_in, offset_in}
+use Rattle.cx_sname.specs.File.{Declared}
 use Rattle.cx_ctree.specs.Conversions.{signed_long, unsigned_long, common}
 use Rattle.cx_ctree.specs.Exprs.{ExprTree, node, ExprKindTree, num, name, local, global, unary, binary, cond, cast, size_of, size_of_expr, index, member, arrow, deref, address, span_of, type_of}
 use Rattle.cx_ctree.specs.Types.{TypeTree, int, pointer}
@@ -15,13 +16,13 @@ use Rattle.cx_ctree.specs.declared.expr.Binary.TheVariants as ops
 use Rattle.cx_ctree.specs.declared.expr.Unary.{Unary}
 use Rattle.cx_ctree.specs.declared.expr.Unary.TheVariants as u
 use Rattle.cx_goto.specs.declared.code.End.TheVariants.{Jump, Branch}
-use Rattle.cx_goto.specs.Trees.{const, copy, global as the_global, bin, load}
+use Rattle.cx_goto.specs.Trees.{const, copy, unset, global as the_global, bin, load}
 use Rattle.cx_goto.specs.declared.code.Op.{Op}
 use Rattle.cx_goto.specs.declared.code.Op.TheVariants.{Add, Sub, Mul, Div, Rem, And, Or, Xor, Shl, Shr}
 use Rattle.cx_goto.specs.declared.code.Rel.{Rel}
 use Rattle.cx_goto.specs.declared.code.Rel.TheVariants.{Eq, Ne, Lt, Le, Gt, Ge}
-use Rattle.cx_lower.specs.Items.{Item, start, does, converts}
-use Rattle.cx_lower.specs.Places.{Last, Sort, logical, comparing, computing, sort_of, last, kind_last}
+use Rattle.cx_lcode.specs.Items.{Item, start, does, converts}
+use Rattle.cx_lcode.specs.Places.{Last, Sort, both, either, comparing, computing, sort_of, last, kind_last}
 
 -- the code of a value, and of a test, whose next block keeps so many locals
 pub record Code : Type 0 where
@@ -67,11 +68,6 @@ rel_of ops.Gt = Gt
 rel_of ops.Ge = Ge
 rel_of _ = Ne
 
--- the type in which values of these types are compared
-abbrev pub compared_in : TypeTree → TypeTree → CInt
-compared_in (int t) (int u) = common t u
-compared_in _ _ = unsigned_long
-
 -- two operands, each as a number of a type, the second in the next local
 abbrev pub operands : (x y : Code) (sx sy : Span) → (lx : Last) → (from_x to_x from_y to_y : CInt) → (b t : ℕ) → List Item → List Item
 operands x y sx sy lx fx tx fy ty b t rest = x.val b t (converts sx fx tx t (y.val (lx.val b) (t + 1) (converts sy fy ty (t + 1) rest)))
@@ -108,17 +104,20 @@ unary_code s u.Neg x sx v w b t rest = does s (const t (pos 0)) ∷ x.val b (t +
 unary_code s u.Compl x sx v w b t rest = x.val b t (converts sx v w t (does s (const (t + 1) (converted w (negsuc 0))) ∷ does s (bin t Xor w t (t + 1)) ∷ rest))
 unary_code s _ x sx v w b t rest = x.val b t (converts sx v w t rest)
 
--- && and ||: the second operand stands in a block of its own
-abbrev pub logical_test : Binary → (x y : Code) → Last → (b t j m keep : ℕ) → List Item → List Item
-logical_test ops.Or x y lx b t j m keep rest = let k = lx.test b + 1 in x.test b t j k t (y.test k t j m keep rest)
-logical_test _ x y lx b t j m keep rest = let k = lx.test b + 1 in x.test b t k m t (y.test k t j m keep rest)
+-- the second operand of && and || stands in a block of its own
+abbrev pub both_test : (x y : Code) → Last → (b t j m keep : ℕ) → List Item → List Item
+both_test x y lx b t j m keep rest = let k = lx.test b + 1 in x.test b t k m t (y.test k t j m keep rest)
+
+abbrev pub either_test : (x y : Code) → Last → (b t j m keep : ℕ) → List Item → List Item
+either_test x y lx b t j m keep rest = let k = lx.test b + 1 in x.test b t j k t (y.test k t j m keep rest)
 
 abbrev pub compared_test : Span → Binary → TypeTree → TypeTree → (x y : Code) (sx sy : Span) → Last → (b t j m keep : ℕ) → List Item → List Item
 compared_test s op v w x y sx sy lx b t j m keep rest =
     operands x y sx sy lx (number_type v) (compared_in v w) (number_type w) (compared_in v w) b t (start (Branch (rel_of op) t (t + 1) j m) s keep ∷ rest)
 
 abbrev pub binary_code : Declared → (q s : Span) → Sort → Binary → TypeTree → TypeTree → (x y : Code) (sx sy : Span) → (lx l : Last) → Code
-binary_code d q s logical op v w x y sx sy lx l = code_by_test q s l.test (logical_test op x y lx)
+binary_code d q s both op v w x y sx sy lx l = code_by_test q s l.test (both_test x y lx)
+binary_code d q s either op v w x y sx sy lx l = code_by_test q s l.test (either_test x y lx)
 binary_code d q s comparing op v w x y sx sy lx l = code_by_test q s l.test (compared_test s op v w x y sx sy lx)
 binary_code d q s computing op v w x y sx sy lx l = code_by_value s (operation d s op v w x y sx sy lx)
 
@@ -130,7 +129,7 @@ abbrev mutual
 
   pub kind_code : Declared → (q s : Span) → TypeTree → ExprKindTree → Code
   kind_code d q s ty (num v n) = code_by_value s (λ b t rest. does s (const t v) ∷ rest)
-  kind_code d q s ty (name n) = code_by_value s (λ b t rest. rest)
+  kind_code d q s ty (name n) = code_by_value s (λ b t rest. does s (unset t) ∷ rest)
   kind_code d q s ty (local x) = code_by_value s (λ b t rest. does s (copy t x) ∷ rest)
   kind_code d q s ty (global n) = code_by_value s (λ b t rest. does s (the_global t n) ∷ object_code s ty t rest)
   kind_code d q s ty (unary u.Not x) = code_by_test q s (last x).test (λ b t j m keep rest. (code_of d q x).test b t m j keep rest)
@@ -164,4 +163,4 @@ abbrev mutual
   kind_place_code d q s (member x m) b t rest = place_code d q x b t (further_code s (offset_in d (type_of x) m) t rest)
   kind_place_code d q s (arrow x m) b t rest = (code_of d q x).val b t (further_code s (offset_in d (target (value_type (type_of x))) m) t rest)
   kind_place_code d q s (deref x) b t rest = (code_of d q x).val b t rest
-  kind_place_code d q s _ b t rest = rest
+  kind_place_code d q s _ b t rest = does s (unset t) ∷ rest

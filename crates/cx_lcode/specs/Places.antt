@@ -1,9 +1,9 @@
 -- The number of the block that is open after the code of an expression, an effect or a statement, where it began in a block of
 -- this number. Blocks are numbered as they are started.
 use Rattle.std.specs.Prelude.{ℕ, ◌+◌, List, [], ◌∷◌, Option, Some, None}
-use Rattle.cx_ctree.specs.Exprs.{ExprTree, node, ExprKindTree, local, unary, binary, cond, cast, index, member, arrow, deref, address, RhsTree, value, call, EffectTree, set, update, call_alone, value_alone, kind_of}
+use Rattle.cx_cmean.specs.Effects.{local_of, operand_of}
+use Rattle.cx_ctree.specs.Exprs.{ExprTree, node, ExprKindTree, unary, binary, cond, cast, index, member, arrow, deref, address, RhsTree, value, call, EffectTree, set, update, call_alone, value_alone}
 use Rattle.cx_ctree.specs.Stmts.{StmtTree, stmt, StmtKindTree, block, empty, effect, declare, if_alone, if_else, while, do_while, for, switch, break, continue, return, StmtTrees, no_stmt, also_stmt, GroupTrees, no_group, also_group}
-use Rattle.cx_ctree.specs.Types.{void}
 use Rattle.cx_ctree.specs.declared.expr.Binary.{Binary}
 use Rattle.cx_ctree.specs.declared.expr.Binary.TheVariants as b
 use Rattle.cx_ctree.specs.declared.expr.Unary.TheVariants as u
@@ -20,15 +20,16 @@ last_by_value f = record { val = f; test = f }
 abbrev pub last_by_test : (ℕ → ℕ) → Last
 last_by_test f = record { val = λ b. f b + 1 + 1 + 1; test = f }
 
--- an operator by its kind: && and ||, comparisons, and all others
+-- an operator by its kind: &&, ||, a comparison, or another
 pub data Sort : Type 0 where
-  logical : Sort
+  both : Sort
+  either : Sort
   comparing : Sort
   computing : Sort
 
 abbrev pub sort_of : Binary → Sort
-sort_of b.And = logical
-sort_of b.Or = logical
+sort_of b.And = both
+sort_of b.Or = either
 sort_of b.Lt = comparing
 sort_of b.Gt = comparing
 sort_of b.Le = comparing
@@ -38,7 +39,8 @@ sort_of b.Ne = comparing
 sort_of _ = computing
 
 abbrev pub last_of_two : Sort → Last → Last → Last
-last_of_two logical x y = last_by_test (λ b. y.test (x.test b + 1))
+last_of_two both x y = last_by_test (λ b. y.test (x.test b + 1))
+last_of_two either x y = last_by_test (λ b. y.test (x.test b + 1))
 last_of_two comparing x y = last_by_test (λ b. y.val (x.val b))
 last_of_two computing x y = last_by_value (λ b. y.val (x.val b))
 
@@ -80,23 +82,18 @@ abbrev pub right_last : RhsTree → ℕ → ℕ
 right_last (value e) b = (last e).val b
 right_last (call c q) b = last_all c.args b
 
-abbrev pub left_kind_last : ExprTree → ExprKindTree → ℕ → ℕ
-left_kind_last l (local x) b = b
-left_kind_last l _ b = last_place l b
+abbrev pub left_at_last : ExprTree → Option ℕ → ℕ → ℕ
+left_at_last l (Some x) b = b
+left_at_last l None b = last_place l b
 
 abbrev pub left_last : ExprTree → ℕ → ℕ
-left_last l b = left_kind_last l (kind_of l) b
-
--- the operand of a cast to void, and any other value
-abbrev pub alone_last : ExprTree → ℕ → ℕ
-alone_last (node s t (cast void x)) b = (last x).val b
-alone_last e b = (last e).val b
+left_last l b = left_at_last l (local_of l) b
 
 abbrev pub effect_last : EffectTree → ℕ → ℕ
 effect_last (set l r s) b = left_last l (right_last r b)
 effect_last (update op l e s) b = left_last l ((last e).val b)
 effect_last (call_alone c) b = last_all c.args b
-effect_last (value_alone e) b = alone_last e b
+effect_last (value_alone e) b = (last (operand_of e)).val b
 
 abbrev pub effects_last : List EffectTree → ℕ → ℕ
 effects_last [] b = b

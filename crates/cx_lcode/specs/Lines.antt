@@ -3,7 +3,7 @@ use Rattle.std.specs.Prelude.{ℕ, ◌+◌, List, [], ◌∷◌, Option}
 use Rattle.cx_ctree.specs.Exprs.{ExprTree, CallTree}
 use Rattle.cx_ctree.specs.Types.{TypeTree}
 use Rattle.cx_goto.specs.Trees.{call}
-use Rattle.cx_lower.specs.Items.{Item, does}
+use Rattle.cx_lcode.specs.Items.{Item, does}
 
 -- as many locals as there are expressions, from the local t on
 abbrev pub locals_for : List ExprTree → (t : ℕ) → List ℕ

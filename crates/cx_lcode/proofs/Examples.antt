@@ -5,7 +5,7 @@ use Rattle.cx_base.specs.Number.{half_of}
 use Rattle.cx_base.specs.declared.span.Span.{Span}
 use Rattle.cx_base.specs.declared.token.Token.{Token}
 use Rattle.cx_base.specs.declared.token.TokenKind.TheVariants.{Name}
-use Rattle.cx_cmean.specs.Program.{Declared}
+use Rattle.cx_sname.specs.File.{Declared}
 use Rattle.cx_cmean.specs.Statements.{closing_brace}
 use Rattle.cx_ctree.specs.Conversions.{signed_int, unsigned_long}
 use Rattle.cx_ctree.specs.Decls.{ParamTree, TypedTree}
@@ -18,7 +18,7 @@ use Rattle.cx_goto.specs.declared.code.End.{End}
 use Rattle.cx_goto.specs.declared.code.End.TheVariants.{Jump, Branch, Return, Missing}
 use Rattle.cx_goto.specs.declared.code.Op.TheVariants.{Add, Mul}
 use Rattle.cx_goto.specs.declared.code.Rel.TheVariants.{Eq, Lt}
-use Rattle.cx_lower.specs.Lowered.{lowered}
+use Rattle.cx_lcode.specs.Lowered.{lowered}
 
 -- so many bytes from the first on
 abbrev at : (first n : ℕ) → Span
@@ -44,7 +44,7 @@ stmts [] = no_stmt
 stmts (s ∷ ss) = also_stmt s (stmts ss)
 
 abbrev declared : Declared
-declared = record { tags = []; decls = [] }
+declared = record { known = record { tags = []; typedefs = []; consts = []; enums = [] }; decls = [] }
 
 abbrev parameter : TypeTree → ParamTree
 parameter t = record { name = None; ctype = t }

@@ -1,0 +1,2 @@
+//! What block code a function of C is lowered to.
+#![tactic(auto)]

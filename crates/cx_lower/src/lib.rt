@@ -1,2 +1,0 @@
-//! The lowering of functions of C to block code.
-#![tactic(auto)]

@@ -1,0 +1,8 @@
+ghost use Rattle.cx_lright.specs.Right.{CodeIsRight};
+
+/// The code of a function does what the function does: for all arguments, turns, memories, answers
+/// of callees, blocks of allocators and changes by others, a run of the code ends in the same way,
+/// with the same memory, after the same accesses, calls and allocations.
+pub fn code_is_right()
+    ensures right { CodeIsRight }
+{}
