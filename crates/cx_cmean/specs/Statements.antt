@@ -1,5 +1,5 @@
 -- What a statement and the body of a function do (C11 6.8). A loop takes a turn whenever it begins again.
-use Rattle.std.specs.Prelude.{ℕ, zero, suc, ◌-◌, ◌+◌, ℤ, pos, Bool, true, false, if◌then◌else◌, ◌||◌, List, [], ◌++◌, length, map, replicate, Option, Some, None, slice_set}
+use Rattle.std.specs.Prelude.{ℕ, zero, suc, ◌-◌, ◌+◌, ℤ, pos, Bool, true, false, if◌then◌else◌, ◌||◌, List, ◌++◌, length, map, replicate, Option, Some, None, slice_set}
 use Rattle.std.specs.Ordering.{int_eq}
 use Rattle.std.proofs.Common.{arith}
 use Rattle.std.specs.List.{list_any}

@@ -5,7 +5,7 @@ use Rattle.cx_cmean.specs.Expressions.{target}
 use Rattle.cx_cmean.specs.Numbers.{value_type}
 use Rattle.cx_cmean.specs.Program.{offset_in, function_of}
 use Rattle.cx_ctree.specs.Exprs.{ExprTree, node, ExprKindTree, unary, binary, cond, cast, index, member, arrow, deref, address, type_of, CallTree, RhsTree, value, call, EffectTree, set, update, call_alone, value_alone}
-use Rattle.cx_ctree.specs.Stmts.{StmtTree, stmt, StmtKindTree, block, empty, effect, declare, if_alone, if_else, while, do_while, for, switch, break, continue, return, StmtTrees, no_stmt, also_stmt, GroupTrees, no_group, also_group}
+use Rattle.cx_ctree.specs.Stmts.{StmtTree, stmt, StmtKindTree, block, effect, declare, if_alone, if_else, while, do_while, for, switch, return, StmtTrees, no_stmt, also_stmt, GroupTrees, no_group, also_group}
 use Rattle.cx_ctree.specs.Types.{TypeTree, int, pointer}
 use Rattle.cx_ctree.specs.declared.expr.Unary.TheVariants as u
 use Rattle.cx_lcode.specs.Places.{Sort, both, either, comparing, computing, sort_of}

@@ -8,7 +8,7 @@ use Rattle.cx_cmean.specs.Expressions.{target}
 use Rattle.cx_cmean.specs.Numbers.{value_type, number_of, applied_in, right_in, compared_in}
 use Rattle.cx_cmean.specs.Program.{size_in, unit_in, offset_in}
 use Rattle.cx_sname.specs.File.{Declared}
-use Rattle.cx_ctree.specs.Conversions.{signed_long, unsigned_long, common}
+use Rattle.cx_ctree.specs.Conversions.{signed_long, unsigned_long}
 use Rattle.cx_ctree.specs.Exprs.{ExprTree, node, ExprKindTree, num, name, local, global, unary, binary, cond, cast, size_of, size_of_expr, index, member, arrow, deref, address, span_of, type_of}
 use Rattle.cx_ctree.specs.Types.{TypeTree, int, pointer}
 use Rattle.cx_ctree.specs.declared.expr.Binary.{Binary}

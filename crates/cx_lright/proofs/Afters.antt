@@ -1,6 +1,5 @@
 -- What stands in the code after an effect and after a statement.
-use Rattle.std.proofs.Common.{ℕ, suc, pos, ◌≡◌, ◌+◌, Bool, true, List, [], ◌∷◌, length, Option, Some, None, arith}
-use Rattle.cx_base.specs.declared.number.CInt.{CInt}
+use Rattle.std.proofs.Common.{ℕ, pos, ◌≡◌, ◌+◌, Bool, true, List, [], ◌∷◌, length, Option, Some, None, arith}
 use Rattle.cx_base.specs.declared.span.Span.{Span}
 use Rattle.cx_base.specs.declared.token.Token.{Token}
 use Rattle.cx_cconst.specs.Constants.{number_type}
@@ -24,7 +23,7 @@ use Rattle.cx_lcode.specs.Statements.{Setting, effects_code, test_code, conditio
 use Rattle.cx_lcode.specs.Values.{op_of, code_of}
 use Rattle.cx_lright.proofs.Machine.{Coded, Keeps, HasAt}
 use Rattle.cx_lright.proofs.Rests.{after_converts, after_number, rest_of, place_rest}
-use Rattle.cx_lright.specs.Fine.{CallFine, RightFine, EffectFine, EffectsFine, InitialFine, StmtFine, StmtsFine, GroupsFine, KindStmtFine}
+use Rattle.cx_lright.specs.Fine.{CallFine, RightFine, EffectFine, EffectsFine, StmtFine, StmtsFine, GroupsFine, KindStmtFine}
 
 -- the setting of the statements of a function of the program
 abbrev pub in_setting : Coded → List Token → TypeTree → ℕ → Setting

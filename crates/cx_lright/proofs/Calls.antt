@@ -1,8 +1,7 @@
 -- The code of a call does what the call does.
-use Rattle.std.proofs.Common.{ℕ, suc, ℤ, pos, ◌≡◌, ◌+◌, ◌<◌, ◌≤◌, Bool, true, false, List, [], ◌∷◌, ◌++◌, length, Option, Some, None, refl, sym, ap, ◌∙◌, subst, arith}
-use Rattle.std.specs.Prelude.{slice_get, slice_set, max, is_some, if◌then◌else◌}
+use Rattle.std.proofs.Common.{ℕ, suc, ℤ, pos, ◌≡◌, ◌+◌, ◌<◌, ◌≤◌, Bool, true, false, List, [], ◌∷◌, ◌++◌, length, Option, Some, None, refl, sym, ap, ◌∙◌, arith}
+use Rattle.std.specs.Prelude.{slice_get, is_some, if◌then◌else◌}
 use Rattle.cx_base.specs.declared.fault.FaultKind.TheVariants as fault
-use Rattle.cx_base.specs.declared.memory.Region.{Region}
 use Rattle.cx_base.specs.declared.span.Span.{Span}
 use Rattle.cx_cconst.specs.Constants.{number_type}
 use Rattle.cx_cells.specs.declared.script.Answer.{Answer}
@@ -19,9 +18,8 @@ use Rattle.cx_goto.specs.Trees as trees
 use Rattle.cx_lcode.specs.Effects.{arguments_code, call_code}
 use Rattle.cx_lcode.specs.Items.{Item, converts}
 use Rattle.cx_lcode.specs.Lines.{locals_for, calls}
-use Rattle.cx_lcode.specs.Needs.{needs, arguments_need, call_need}
+use Rattle.cx_lcode.specs.Needs.{arguments_need, call_need}
 use Rattle.cx_lcode.specs.Places.{last, last_all}
-use Rattle.cx_lcode.specs.Values.{code_of}
 use Rattle.cx_lright.proofs.Lines.{converts_ends}
 use Rattle.cx_lright.proofs.Locals.{Matches, Kept, kept_refl, kept_trans, matches_kept, kept_set, get-set_same}
 use Rattle.cx_lright.proofs.Machine.{Coded, HasAt, Ends, ends_on, at_line_is, IsLine}
@@ -29,7 +27,6 @@ use Rattle.cx_lright.proofs.Needing.{ones}
 use Rattle.cx_lright.proofs.Values.{does_of}
 use Rattle.cx_lright.specs.Fine.{AllFine, CallFine, is_void}
 use Rattle.cx_lright.specs.Right.{GivesNumbers}
-use Rattle.cx_sname.specs.File.{Declared}
 use Rattle.cx_world.specs.Calls as world
 use Rattle.cx_world.specs.Oracle.{Oracle, Asked}
 use Rattle.cx_world.specs.World as world_of

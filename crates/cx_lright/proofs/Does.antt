@@ -1,6 +1,6 @@
 -- What it means that code does what a tree gives, and the ways in which code is put together.
-use Rattle.std.proofs.Common.{ℕ, suc, ℤ, pos, ◌≡◌, ◌+◌, ◌<◌, ◌≤◌, Bool, true, false, not, List, [], ◌∷◌, length, Option, Some, refl, sym, ap, ◌∙◌, subst, arith}
-use Rattle.std.specs.Prelude.{slice_get, slice_set, max, if◌then◌else◌}
+use Rattle.std.proofs.Common.{ℕ, ℤ, pos, ◌≡◌, ◌+◌, ◌<◌, ◌≤◌, Bool, true, false, not, List, ◌∷◌, length, Some, refl, sym, ap, ◌∙◌, subst, arith}
+use Rattle.std.specs.Prelude.{slice_get, slice_set, if◌then◌else◌}
 use Rattle.cx_base.specs.declared.number.CInt.{CInt}
 use Rattle.cx_base.specs.declared.span.Span.{Span}
 use Rattle.cx_cconst.specs.Constants.{truth}
@@ -13,12 +13,11 @@ use Rattle.cx_lcode.specs.Items.{Item, start, does, converts}
 use Rattle.cx_lcode.specs.Needs.{Needs, by_value, by_test, two}
 use Rattle.cx_lcode.specs.Places.{Last, last_by_value, last_by_test}
 use Rattle.cx_lcode.specs.Values.{Code, code_by_value, code_by_test}
-use Rattle.cx_lright.proofs.Grows.{Grows}
 use Rattle.cx_lright.proofs.Lines.{const_ends, converts_ends}
-use Rattle.cx_lright.proofs.Locals.{Matches, Kept, kept_refl, kept_trans, matches_kept, kept_set, kept_unset, get-set_same, get-set_other, get-unset}
-use Rattle.cx_lright.proofs.Machine.{Coded, IsLine, IsEnd, Keeps, HasAt, Ends, ends_as, ends_on, follow_on, Goes, jump_ends, branch_ends, goes_ahead}
+use Rattle.cx_lright.proofs.Locals.{Matches, Kept, kept_trans, matches_kept, kept_set, kept_unset, get-set_same, get-set_other, get-unset}
+use Rattle.cx_lright.proofs.Machine.{Coded, IsLine, IsEnd, Keeps, HasAt, Ends, ends_as, ends_on, Goes, jump_ends, branch_ends, goes_ahead}
 use Rattle.cx_lright.proofs.Rests.{AfterTest}
-use Rattle.cx_world.specs.World.{World, Did, gives, halts, go_on, Locals}
+use Rattle.cx_world.specs.World.{World, Did, gives, go_on, Locals}
 
 -- the code of a value does what the tree gives at the locals xs, whatever comes after it, and leaves it in the local t
 abbrev pub DoesVal : (c : Coded) (L need : ℕ) (xs : Locals) (f : ℕ → ℕ) (val : ℕ → ℕ → List Item → List Item) (ev : World → Did ℤ) → Type 0

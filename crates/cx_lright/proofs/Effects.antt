@@ -1,6 +1,6 @@
 -- The code of an effect does what the effect does.
-use Rattle.std.proofs.Common.{ℕ, suc, ℤ, pos, ◌≡◌, ◌+◌, ◌<◌, ◌≤◌, ◌*ℤ◌, Bool, true, false, List, [], ◌∷◌, length, Option, Some, None, refl, sym, ap, ◌∙◌, subst, arith}
-use Rattle.std.specs.Prelude.{slice_get, slice_set, max, is_some, if◌then◌else◌}
+use Rattle.std.proofs.Common.{ℕ, ℤ, pos, ◌≡◌, ◌+◌, ◌<◌, ◌≤◌, ◌*ℤ◌, Bool, true, false, List, [], ◌∷◌, length, Option, Some, None, refl, sym, ap, ◌∙◌, subst, arith}
+use Rattle.std.specs.Prelude.{slice_get, slice_set, is_some, if◌then◌else◌}
 use Rattle.std.proofs.lemmas.List.{length-set}
 use Rattle.cx_base.specs.declared.number.CInt.{CInt}
 use Rattle.cx_base.specs.declared.span.Span.{Span}
@@ -9,7 +9,7 @@ use Rattle.cx_cconst.specs.Constants.{number_type, converted}
 use Rattle.cx_cmean.specs.Effects.{called, taken_as, pointee_of, result_as, right, Left, to_local, to_memory, local_of, left_at, left, read_left, write_left, updated, operand_of, done, all_done}
 use Rattle.cx_cmean.specs.Expressions.{object_at, eval, place}
 use Rattle.cx_cmean.specs.Numbers.{value_type, number_of, is_same, as_type, applied_in, right_in, on_integers, operate, moved, moved_back}
-use Rattle.cx_cmean.specs.Program.{Program, unit_in, function_of}
+use Rattle.cx_cmean.specs.Program.{unit_in, function_of}
 use Rattle.cx_ctree.specs.Conversions.{unsigned_long}
 use Rattle.cx_ctree.specs.Exprs.{ExprTree, span_of, type_of, RhsTree, value, call, EffectTree, set, update, call_alone, value_alone}
 use Rattle.cx_ctree.specs.Types.{TypeTree, void, int, pointer, array, tag}
@@ -19,13 +19,13 @@ use Rattle.cx_goto.specs.Machine.{Outcome, follow, put_in}
 use Rattle.cx_goto.specs.Operations as code
 use Rattle.cx_goto.specs.Trees as trees
 use Rattle.cx_goto.specs.declared.code.Op.TheVariants.{Mul}
-use Rattle.cx_lcode.specs.Effects.{right_code, left_at_code, left_code, read_code, write_code, updates, effect_code}
+use Rattle.cx_lcode.specs.Effects.{right_code, left_at_code, read_code, write_code, updates, effect_code}
 use Rattle.cx_lcode.specs.Items.{Item, does, converts}
-use Rattle.cx_lcode.specs.Needs.{needs, right_need, left_at_need, left_need, updated_need, effect_need, effects_need}
+use Rattle.cx_lcode.specs.Needs.{right_need, left_at_need, updated_need, effect_need, effects_need}
 use Rattle.cx_lcode.specs.Places as places
-use Rattle.cx_lcode.specs.Places.{computing, sort_of, last, right_last, left_at_last, left_last, effect_last}
+use Rattle.cx_lcode.specs.Places.{computing, sort_of, last, right_last, left_at_last, effect_last}
 use Rattle.cx_lcode.specs.Statements.{effects_code}
-use Rattle.cx_lcode.specs.Values.{op_of, code_of}
+use Rattle.cx_lcode.specs.Values.{op_of}
 use Rattle.cx_lright.proofs.Afters.{in_setting}
 use Rattle.cx_lright.proofs.Calls.{Given, call_does}
 use Rattle.cx_lright.proofs.Does.{number_does}
@@ -37,10 +37,10 @@ use Rattle.cx_lright.proofs.Needing.{ones}
 use Rattle.cx_lright.proofs.Operators.{by_moves}
 use Rattle.cx_lright.proofs.Sums.{sum_right, difference_right}
 use Rattle.cx_lright.proofs.Values.{does_of, place_does, go_on_twice}
-use Rattle.cx_lright.specs.Fine.{is_void, is_scalar, moves, changes, RightFine, LeftAtFine, EffectFine, EffectsFine}
+use Rattle.cx_lright.specs.Fine.{is_scalar, moves, changes, RightFine, LeftAtFine, EffectFine, EffectsFine}
 use Rattle.cx_lright.specs.Right.{GivesNumbers}
 use Rattle.cx_world.specs.Access as access
-use Rattle.cx_world.specs.World.{World, Did, gives, halts, go_on, Locals, set_number, local_value, others}
+use Rattle.cx_world.specs.World.{World, gives, go_on, Locals, set_number, local_value, others}
 
 lowered : (t : ℕ) (ls ms : Locals) → Kept (t + 1) ls ms → Kept t ls ms
 lowered t ls ms k = record { same = λ x h. k.same x (omega arith); long = k.long }

@@ -1,5 +1,5 @@
 -- What lines do that work on a value which stands in a local.
-use Rattle.std.proofs.Common.{ℕ, ℤ, pos, ◌≡◌, ◌+◌, ◌<◌, ◌≤◌, ◌==◌, ◌+ℤ◌, ◌*ℤ◌, Bool, true, false, List, [], ◌∷◌, length, Option, Some, None, refl, sym, ap, ◌∙◌, arith}
+use Rattle.std.proofs.Common.{ℕ, ℤ, pos, ◌≡◌, ◌+◌, ◌<◌, ◌≤◌, ◌==◌, ◌+ℤ◌, ◌*ℤ◌, Bool, true, false, List, ◌∷◌, length, Some, refl, ap, ◌∙◌, arith}
 use Rattle.std.specs.Prelude.{slice_get, slice_set, if◌then◌else◌}
 use Rattle.cx_base.specs.declared.number.CInt.{CInt}
 use Rattle.cx_base.specs.declared.span.Span.{Span}
@@ -13,13 +13,13 @@ use Rattle.cx_goto.specs.Operations.{operate}
 use Rattle.cx_goto.specs.Trees.{const, conv, bin, load}
 use Rattle.cx_goto.specs.declared.code.Op.{Op}
 use Rattle.cx_goto.specs.declared.code.Op.TheVariants.{Add, Mul}
-use Rattle.cx_lcode.specs.Items.{Item, line, does, converts}
+use Rattle.cx_lcode.specs.Items.{Item, does, converts}
 use Rattle.cx_lcode.specs.Values.{scaled, object_code, further_code}
 use Rattle.cx_lright.proofs.Locals.{Kept, kept_refl, kept_trans, kept_set, get-set_same, get-set_other}
 use Rattle.cx_lright.proofs.Machine.{Coded, IsLine, HasAt, Ends, line_ends, still_ends}
 use Rattle.cx_lcode.specs.Needs.{further_need}
 use Rattle.cx_world.specs.Access as access
-use Rattle.cx_world.specs.World.{World, Did, gives, go_on, Locals, set_number, local_value, others}
+use Rattle.cx_world.specs.World.{World, gives, go_on, Locals, set_number, local_value, others}
 
 pub const_ends : (c : Coded) (b i t n : ℕ) (s : Span) (ls : Locals) (w : World) (v : ℤ) (o : Outcome) → IsLine c b i (record { instr = const t v; span = s }) → Ends c b (i + 1) (slice_set ls t (Some v)) n w o → Ends c b i ls n w o
 const_ends c b i t n s ls w v o h q = still_ends c b i n ls (slice_set ls t (Some v)) w _ o h refl q

@@ -1,33 +1,32 @@
 -- The code of a loop does what the loop does.
-use Rattle.std.proofs.Common.{ℕ, zero, suc, ℤ, ◌≡◌, ◌+◌, ◌<◌, ◌≤◌, Bool, true, false, List, ◌∷◌, length, Option, Some, None, refl, sym, ap, ◌∙◌, arith}
-use Rattle.std.specs.Prelude.{max, if◌then◌else◌}
+use Rattle.std.proofs.Common.{ℕ, ◌+◌, ◌<◌, ◌≤◌, Bool, true, false, List, ◌∷◌, length, Option, Some, None, sym, arith}
+use Rattle.std.specs.Prelude.{if◌then◌else◌}
 use Rattle.cx_base.specs.declared.span.Span.{Span}
 use Rattle.cx_base.specs.declared.token.Token.{Token}
 use Rattle.cx_cmean.specs.Effects.{all_done}
 use Rattle.cx_cmean.specs.Expressions.{eval}
 use Rattle.cx_cmean.specs.Numbers.{is_zero}
-use Rattle.cx_cmean.specs.Statements.{State, Ran, normal, broken, continued, stops, valued, after, looped, turned, in_world, with_locals, tested, tested_if, effects, exec_by, exec_kind, run}
+use Rattle.cx_cmean.specs.Statements.{State, Ran, normal, looped, turned, in_world, with_locals, tested, tested_if, effects, exec_by}
 use Rattle.cx_ctree.specs.Exprs.{ExprTree, EffectTree}
 use Rattle.cx_ctree.specs.Stmts.{StmtTree, stmt, while, do_while, for, no_stmt}
 use Rattle.cx_ctree.specs.Types.{TypeTree}
-use Rattle.cx_goto.specs.Machine.{Outcome, follow}
+use Rattle.cx_goto.specs.Machine.{Outcome}
 use Rattle.cx_goto.specs.declared.code.End.TheVariants.{Jump}
 use Rattle.cx_lcode.specs.Items.{Item, start}
 use Rattle.cx_lcode.specs.Needs.{needs, condition_need, effects_need, stmt_need}
 use Rattle.cx_lcode.specs.Places.{last, condition_last, effects_last, stmt_last}
 use Rattle.cx_lcode.specs.Statements.{Setting, effects_code, test_code, condition_code, stmt_code}
-use Rattle.cx_lcode.specs.Values.{code_of}
 use Rattle.cx_lright.proofs.Afters.{in_setting, after_effects, after_condition, stmt_rest}
 use Rattle.cx_lright.proofs.Effects.{effects_do}
 use Rattle.cx_lright.proofs.Grows.{grows, condition_grows, effects_grow, stmt_grows}
-use Rattle.cx_lright.proofs.Locals.{Matches, Kept, kept_refl}
+use Rattle.cx_lright.proofs.Locals.{Matches}
 use Rattle.cx_lright.proofs.Machine.{Coded, Keeps, HasAt, Ends, ends_as, Goes, goes_either, jump_ends}
 use Rattle.cx_lright.proofs.Rests.{rest_of}
 use Rattle.cx_lright.proofs.Values.{does_of}
-use Rattle.cx_lright.proofs.Ways.{finish, finish_valued, finish_after, finish_looped, Fits, Escapes, Normally, DoesStmt, fits_unset, fits_after, ahead_goes, turned_goes}
+use Rattle.cx_lright.proofs.Ways.{finish, finish_valued, finish_looped, Fits, Normally, DoesStmt, fits_after, ahead_goes, turned_goes}
 use Rattle.cx_lright.specs.Fine.{Fine, ConditionFine, EffectsFine, StmtFine}
 use Rattle.cx_lright.specs.Right.{GivesNumbers}
-use Rattle.cx_world.specs.World.{World, turns_spent, Locals}
+use Rattle.cx_world.specs.World.{Locals}
 
 -- a loop from its head on, with its place
 pub data Loop : Type 0 where

@@ -1,5 +1,5 @@
 -- Where items stand in code, and how a run goes on from there.
-use Rattle.std.proofs.Common.{ℕ, suc, ℤ, pos, ◌≡◌, ◌+◌, ◌<◌, ◌≤◌, Bool, true, false, List, [], ◌∷◌, Option, Some, None, refl, sym, ap, ◌∙◌, arith}
+use Rattle.std.proofs.Common.{ℕ, suc, ℤ, ◌≡◌, ◌+◌, ◌<◌, ◌≤◌, Bool, true, false, List, [], ◌∷◌, Option, Some, None, refl, sym, ap, ◌∙◌}
 use Rattle.std.specs.Prelude.{slice_get, if◌then◌else◌}
 use Rattle.std.proofs.lemmas.Bool.{lt-leb, le-leb}
 use Rattle.cx_base.specs.declared.span.Span.{Span}
@@ -7,11 +7,11 @@ use Rattle.cx_goto.specs.Machine.{Outcome, ended, stuck, follow, unset_from, act
 use Rattle.cx_goto.specs.Operations.{relates}
 use Rattle.cx_goto.specs.Trees.{LineTree, BlockTree}
 use Rattle.cx_goto.specs.declared.code.End.{End}
-use Rattle.cx_goto.specs.declared.code.End.TheVariants.{Jump, Branch, Return, Missing}
+use Rattle.cx_goto.specs.declared.code.End.TheVariants.{Jump, Branch, Return}
 use Rattle.cx_goto.specs.declared.code.Rel.{Rel}
 use Rattle.cx_lcode.specs.Items.{Item, line, start}
 use Rattle.cx_cmean.specs.Program.{Program}
-use Rattle.cx_world.specs.World.{World, Halt, returned, Did, gives, halts, go_on, Locals, set_number, local_value, others, turns_spent}
+use Rattle.cx_world.specs.World.{World, returned, Did, gives, halts, go_on, Locals, set_number, local_value, others, turns_spent}
 
 -- the whole code of a function of the program, and how its last block ends
 pub record Coded : Type 0 where

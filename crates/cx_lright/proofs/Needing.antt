@@ -1,9 +1,6 @@
 -- Code of a value uses a local at least.
-use Rattle.std.proofs.Common.{ℕ, ◌+◌, ◌≤◌, ◌==◌, Bool, true, false, arith}
-use Rattle.std.specs.Prelude.{max, if◌then◌else◌}
-use Rattle.cx_cmean.specs.Expressions.{target}
+use Rattle.std.proofs.Common.{ℕ, ◌≤◌, arith}
 use Rattle.cx_cmean.specs.Numbers.{value_type}
-use Rattle.cx_cmean.specs.Program.{offset_in}
 use Rattle.cx_ctree.specs.Exprs.{ExprTree, node, ExprKindTree, num, name, local, global, unary, binary, cond, cast, size_of, size_of_expr, index, member, arrow, deref, address, type_of}
 use Rattle.cx_ctree.specs.Types.{TypeTree, void, int, pointer, array, tag}
 use Rattle.cx_ctree.specs.declared.expr.Unary.TheVariants as u

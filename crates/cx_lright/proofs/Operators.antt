@@ -1,5 +1,5 @@
 -- The code of operators does what the operators do.
-use Rattle.std.proofs.Common.{ℕ, suc, ℤ, pos, ◌≡◌, ◌+◌, ◌<◌, ◌≤◌, ◌+ℤ◌, ◌-ℤ◌, ◌*ℤ◌, Bool, true, false, List, [], ◌∷◌, length, Some, refl, sym, ap, ◌∙◌, subst, arith}
+use Rattle.std.proofs.Common.{ℕ, ℤ, pos, ◌≡◌, ◌+◌, ◌<◌, ◌≤◌, ◌-ℤ◌, ◌*ℤ◌, true, List, ◌∷◌, length, Some, refl, sym, ap, ◌∙◌, arith}
 use Rattle.std.specs.Prelude as prelude
 use Rattle.std.specs.Prelude.{slice_get}
 use Rattle.cx_base.specs.declared.number.CInt.{CInt}
@@ -23,9 +23,9 @@ use Rattle.cx_lcode.specs.Values as values
 use Rattle.cx_lcode.specs.Values.{Code, op_of, operation}
 use Rattle.cx_lright.proofs.Does.{DoesVal, two_values, two_numbers}
 use Rattle.cx_lright.proofs.Lines as lines
-use Rattle.cx_lright.proofs.Lines.{converts_ends, bin_ends, sure_ends, with_number, scaled_ends}
+use Rattle.cx_lright.proofs.Lines.{converts_ends, bin_ends, sure_ends, scaled_ends}
 use Rattle.cx_lright.proofs.Locals as locals
-use Rattle.cx_lright.proofs.Locals.{Matches, Kept, kept_trans, matches_kept}
+use Rattle.cx_lright.proofs.Locals.{Kept, kept_trans, matches_kept}
 use Rattle.cx_lright.proofs.Machine.{Coded, HasAt, Ends, ends_as, ends_on}
 use Rattle.cx_lright.proofs.Sums.{sum_right, sum_left, difference_right}
 use Rattle.cx_lright.specs.Fine.{adds, subtracts, moves, takes}

@@ -1,14 +1,13 @@
 -- The locals that code names.
-use Rattle.std.proofs.Common.{ℕ, suc, ℤ, pos, negsuc, ◌≡◌, ◌+◌, ◌==◌, ◌≤◌, Bool, true, false, List, [], ◌∷◌, ◌++◌, length, Option, Some, None, refl, sym, ap, ◌∙◌, arith}
+use Rattle.std.proofs.Common.{ℕ, pos, negsuc, ◌≡◌, ◌+◌, ◌==◌, ◌≤◌, Bool, true, false, List, [], ◌∷◌, ◌++◌, length, Option, Some, None, ap, ◌∙◌, arith}
 use Rattle.std.specs.Prelude.{max, if◌then◌else◌}
 use Rattle.cx_base.specs.declared.number.CInt.{CInt}
 use Rattle.cx_base.specs.declared.span.Span.{Span}
-use Rattle.cx_base.specs.declared.token.Token.{Token}
 use Rattle.cx_cconst.specs.Constants.{number_type, converted}
 use Rattle.cx_cmean.specs.Effects.{taken_as, pointee_of, local_of, operand_of}
 use Rattle.cx_cmean.specs.Expressions.{target}
 use Rattle.cx_cmean.specs.Numbers.{value_type, number_of, is_same, applied_in, right_in, compared_in}
-use Rattle.cx_cmean.specs.Program.{offset_in, unit_in, size_in, function_of}
+use Rattle.cx_cmean.specs.Program.{offset_in, unit_in, function_of}
 use Rattle.cx_ctree.specs.Conversions.{unsigned_long, signed_long, promoted}
 use Rattle.cx_ctree.specs.Exprs.{ExprTree, node, ExprKindTree, num, name, local, global, unary, binary, cond, cast, size_of, size_of_expr, index, member, arrow, deref, address, span_of, type_of, CallTree, RhsTree, value, call, EffectTree, set, update, call_alone, value_alone}
 use Rattle.cx_ctree.specs.Stmts.{StmtTree, stmt, StmtKindTree, block, empty, effect, declare, if_alone, if_else, while, do_while, for, switch, break, continue, return, StmtTrees, no_stmt, also_stmt, GroupTrees, no_group, also_group}
@@ -17,21 +16,21 @@ use Rattle.cx_ctree.specs.declared.expr.Binary.{Binary}
 use Rattle.cx_ctree.specs.declared.expr.Binary.TheVariants as ops
 use Rattle.cx_ctree.specs.declared.expr.Unary.TheVariants as u
 use Rattle.cx_goto.specs.Trees as trees
-use Rattle.cx_goto.specs.Trees.{InstrTree, LineTree, BlockTree, conv, const, bin}
+use Rattle.cx_goto.specs.Trees.{LineTree, const, bin}
 use Rattle.cx_goto.specs.declared.code.End.{End}
 use Rattle.cx_goto.specs.declared.code.End.TheVariants.{Jump, Branch, Return}
 use Rattle.cx_goto.specs.declared.code.Op.TheVariants.{Mul, Add, Sub, Div, Xor}
-use Rattle.cx_goto.specs.declared.code.Rel.TheVariants.{Eq, Ne}
+use Rattle.cx_goto.specs.declared.code.Rel.TheVariants.{Ne}
 use Rattle.cx_lcode.specs.Effects.{arguments_code, call_code, right_code, left_at_code, read_code, write_code, updates, effect_code}
 use Rattle.cx_lcode.specs.Items.{Item, line, start, does, converts, blocks_of, first_token}
 use Rattle.cx_lcode.specs.Lines.{locals_for, calls}
 use Rattle.cx_lcode.specs.Lowered.{past_all, instr_past, end_past, lines_past, blocks_past}
-use Rattle.cx_lcode.specs.Needs.{Needs, by_value, by_test, two, operation_need, of_two, further_need, needs, kind_needs, place_need, kind_place_need, arguments_need, call_need, right_need, left_at_need, updated_need, effect_need, effects_need, initial_need, condition_need, labels_need, stmt_need, kind_stmt_need, stmts_need, groups_need}
-use Rattle.cx_lcode.specs.Places.{Last, Sort, both, either, comparing, computing, sort_of, last, last_of_two, right_last, left_at_last, effect_last, effects_last, condition_last, labels_last, all_labels_last, stmt_last, stmts_last, groups_last}
+use Rattle.cx_lcode.specs.Needs.{Needs, by_value, by_test, two, operation_need, of_two, further_need, needs, kind_needs, place_need, kind_place_need, arguments_need, call_need, right_need, left_at_need, updated_need, effect_need, effects_need, condition_need, labels_need, stmt_need, kind_stmt_need, stmts_need, groups_need}
+use Rattle.cx_lcode.specs.Places.{Last, Sort, both, either, comparing, computing, sort_of, last, last_of_two, right_last, effect_last, effects_last, condition_last, labels_last, all_labels_last, stmt_last, stmts_last, groups_last}
 use Rattle.cx_lcode.specs.Statements.{Setting, effects_code, test_code, condition_code, labels_code, all_labels_code, default_block, stmt_code, kind_code as kind_stmt_code, stmts_code, groups_code}
-use Rattle.cx_lcode.specs.Values.{Code, code_by_value, code_by_test, op_of, rel_of, operands, operation, scaled, object_code, further_code, both_test, either_test, compared_test, binary_code, code_of, kind_code, place_code, kind_place_code}
+use Rattle.cx_lcode.specs.Values.{Code, code_by_value, code_by_test, op_of, rel_of, operands, operation, scaled, object_code, further_code, binary_code, code_of, kind_code, place_code, kind_place_code}
 use Rattle.cx_lright.proofs.Needing.{ones, place_ones}
-use Rattle.cx_lright.specs.Fine.{Fine, KindFine, PlaceFine, KindPlaceFine, AllFine, CallFine, RightFine, LeftAtFine, EffectFine, EffectsFine, InitialFine, ConditionFine, StmtFine, KindStmtFine, StmtsFine, GroupsFine}
+use Rattle.cx_lright.specs.Fine.{Fine, KindFine, PlaceFine, KindPlaceFine, AllFine, CallFine, RightFine, LeftAtFine, EffectFine, EffectsFine, ConditionFine, StmtFine, KindStmtFine, StmtsFine, GroupsFine}
 use Rattle.cx_sname.specs.File.{Declared}
 
 -- one more than the greatest local that items name

@@ -1,18 +1,18 @@
 -- The items stand in the blocks that they make, so the code of a function does what the function does.
-use Rattle.std.proofs.Common.{ℕ, zero, suc, ℤ, ◌≡◌, ◌+◌, ◌-◌, ◌≤◌, ◌<◌, false, List, [], ◌∷◌, ◌++◌, length, map, replicate, Option, Some, None, refl, sym, ap, ◌∙◌, subst, arith, append_assoc, length-append}
+use Rattle.std.proofs.Common.{ℕ, zero, suc, ℤ, ◌≡◌, ◌+◌, ◌-◌, ◌≤◌, ◌<◌, false, List, [], ◌∷◌, ◌++◌, length, map, replicate, Some, None, refl, sym, ap, ◌∙◌, subst, arith, append_assoc, length-append}
 use Rattle.std.specs.Prelude.{slice_get, max}
 use Rattle.std.proofs.lemmas.List.{append-nil}
 use Rattle.cx_base.specs.declared.fault.FaultKind.TheVariants as fault
 use Rattle.cx_base.specs.declared.span.Span.{Span}
 use Rattle.cx_base.specs.declared.token.Token.{Token}
 use Rattle.cx_cmean.specs.Program.{Program}
-use Rattle.cx_cmean.specs.Statements.{State, Ran, normal, broken, continued, stops, valued, after, in_world, run, exec, closing_brace, at_end, first_locals, exec_function}
+use Rattle.cx_cmean.specs.Statements.{State, Ran, normal, broken, continued, stops, valued, in_world, exec, closing_brace, at_end, first_locals, exec_function}
 use Rattle.cx_ctree.specs.Decls.{TypedTree}
 use Rattle.cx_ctree.specs.Stmts.{stmt_span}
 use Rattle.cx_ctree.specs.Types.{TypeTree, void, int, pointer, array, tag}
 use Rattle.cx_goto.specs.Machine as machine
-use Rattle.cx_goto.specs.Machine.{Outcome, stuck, ended, follow, unset_from, enter, run_of}
-use Rattle.cx_goto.specs.Trees.{LineTree, BlockTree, CodeTree}
+use Rattle.cx_goto.specs.Machine.{stuck, ended, follow, unset_from, enter, run_of}
+use Rattle.cx_goto.specs.Trees.{LineTree, BlockTree}
 use Rattle.cx_goto.specs.declared.code.End.{End}
 use Rattle.cx_goto.specs.declared.code.End.TheVariants.{Return, Missing}
 use Rattle.cx_lcode.specs.Items.{Item, line, start, blocks_of}
@@ -20,13 +20,12 @@ use Rattle.cx_lcode.specs.Lowered.{last_end, setting_of, body_blocks, blocks_pas
 use Rattle.cx_lcode.specs.Needs.{stmt_need}
 use Rattle.cx_lcode.specs.Places.{stmt_last}
 use Rattle.cx_lcode.specs.Statements.{stmt_code}
-use Rattle.cx_lright.proofs.Locals.{Matches, matches_kept, kept_unset, length-unset}
+use Rattle.cx_lright.proofs.Locals.{Matches, matches_kept, kept_unset}
 use Rattle.cx_lright.proofs.Machine.{Coded, Keeps, HasAt, Ends, ends_as, at_end_is, return_ends}
 use Rattle.cx_lright.proofs.Past.{blocks_are, past_stmt}
 use Rattle.cx_lright.proofs.Statements.{run_does}
-use Rattle.cx_lright.proofs.Ways.{finish, finish_after, Fits}
-use Rattle.cx_lright.specs.Fine.{FunctionFine}
-use Rattle.cx_lright.specs.Right.{GivesNumbers, outcome_of, DoesAs, CodeIsRight}
+use Rattle.cx_lright.proofs.Ways.{finish, finish_after}
+use Rattle.cx_lright.specs.Right.{outcome_of, CodeIsRight}
 use Rattle.cx_world.specs.Calls.{leave}
 use Rattle.cx_world.specs.World.{World, Did, gives, halts, Locals, faulted}
 

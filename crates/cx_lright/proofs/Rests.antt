@@ -1,5 +1,5 @@
 -- What stands in the code after a value, an address and a test.
-use Rattle.std.proofs.Common.{ℕ, suc, ℤ, pos, ◌≡◌, ◌+◌, ◌==◌, Bool, true, false, List, [], ◌∷◌}
+use Rattle.std.proofs.Common.{ℕ, pos, ◌+◌, ◌==◌, Bool, true, false, List, ◌∷◌}
 use Rattle.std.specs.Prelude.{if◌then◌else◌, negsuc}
 use Rattle.cx_base.specs.declared.number.CInt.{CInt}
 use Rattle.cx_base.specs.declared.span.Span.{Span}
@@ -19,7 +19,7 @@ use Rattle.cx_goto.specs.declared.code.Op.TheVariants.{Sub, Div, Xor}
 use Rattle.cx_goto.specs.declared.code.Rel.TheVariants.{Ne}
 use Rattle.cx_lcode.specs.Items.{Item, line, start, does, converts}
 use Rattle.cx_lcode.specs.Places.{Last, last_by_value, last_by_test, Sort, both, either, comparing, computing, sort_of, last_of_two, last, kind_last, last_place, kind_last_place}
-use Rattle.cx_lcode.specs.Values.{Code, code_by_value, code_by_test, op_of, rel_of, operands, operation, scaled, object_code, further_code, both_test, either_test, compared_test, binary_code, code_of, kind_code, place_code, kind_place_code}
+use Rattle.cx_lcode.specs.Values.{Code, code_by_value, code_by_test, op_of, rel_of, operands, operation, scaled, object_code, further_code, binary_code, code_of, kind_code, place_code, kind_place_code}
 use Rattle.cx_lright.proofs.Machine.{Coded, Keeps, HasAt}
 use Rattle.cx_sname.specs.File.{Declared}
 

@@ -1,6 +1,6 @@
 -- The code of a statement does what the statement does.
-use Rattle.std.proofs.Common.{ℕ, zero, suc, ℤ, ◌≡◌, ◌+◌, ◌<◌, ◌≤◌, Bool, true, false, List, [], ◌∷◌, length, Option, Some, None, refl, sym, ap, ◌∙◌, subst, arith}
-use Rattle.std.specs.Prelude.{slice_get, slice_set, max, if◌then◌else◌}
+use Rattle.std.proofs.Common.{ℕ, zero, suc, ℤ, ◌≡◌, ◌+◌, ◌<◌, ◌≤◌, Bool, true, false, List, ◌∷◌, Option, Some, None, refl, sym, ap, subst, arith}
+use Rattle.std.specs.Prelude.{slice_get, slice_set, if◌then◌else◌}
 use Rattle.std.proofs.lemmas.List.{length-set}
 use Rattle.cx_base.specs.declared.span.Span.{Span}
 use Rattle.cx_base.specs.declared.token.Token.{Token}
@@ -8,41 +8,40 @@ use Rattle.cx_cconst.specs.Constants.{number_type}
 use Rattle.cx_cmean.specs.Effects.{right, done}
 use Rattle.cx_cmean.specs.Expressions.{eval}
 use Rattle.cx_cmean.specs.Numbers.{number_of, as_type}
-use Rattle.cx_cmean.specs.Statements.{State, Ran, normal, broken, continued, stops, valued, after, unbroken, in_world, with_locals, declared, returned, goes_to, exec_by, exec_kind, execs_by, groups_by, from_label, run}
+use Rattle.cx_cmean.specs.Statements.{State, Ran, normal, stops, in_world, with_locals, exec_by, exec_kind, execs_by, groups_by, run}
 use Rattle.cx_ctree.specs.Conversions.{promoted}
-use Rattle.cx_ctree.specs.Exprs.{ExprTree, RhsTree, span_of, type_of}
+use Rattle.cx_ctree.specs.Exprs.{ExprTree, span_of, type_of}
 use Rattle.cx_ctree.specs.Stmts.{StmtTree, stmt, StmtKindTree, block, empty, effect, declare, if_alone, if_else, while, do_while, for, switch, break, continue, return, StmtTrees, no_stmt, also_stmt, GroupTrees, no_group, also_group}
 use Rattle.cx_ctree.specs.Types.{TypeTree}
 use Rattle.cx_goto.specs.Machine.{Outcome, follow, put_in}
 use Rattle.cx_goto.specs.Trees.{copy}
 use Rattle.cx_goto.specs.declared.code.End.TheVariants.{Jump, Return}
 use Rattle.cx_lcode.specs.Items.{Item, start, does, converts, first_token}
-use Rattle.cx_lcode.specs.Needs.{needs, labels_need, stmt_need, kind_stmt_need, stmts_need, groups_need}
+use Rattle.cx_lcode.specs.Needs.{stmt_need, kind_stmt_need, stmts_need, groups_need}
 use Rattle.cx_lcode.specs.Places.{last, right_last, all_labels_last, effects_last, condition_last, stmt_last, kind_stmt_last, stmts_last, groups_last}
 use Rattle.cx_lcode.specs.Statements.{all_labels_code, default_block, stmt_code, kind_code, stmts_code, groups_code, test_code, condition_code, effects_code}
 use Rattle.cx_lcode.specs.Values.{code_of}
 use Rattle.cx_lright.proofs.Afters as afters
 use Rattle.cx_lright.proofs.Afters.{in_setting, after_all_labels, stmt_rest, stmts_rest}
-use Rattle.cx_lright.proofs.Does.{number_does}
 use Rattle.cx_lright.proofs.Effects.{right_does, effect_does}
 use Rattle.cx_lright.proofs.Grows as grows_of
 use Rattle.cx_lright.proofs.Grows.{grows, all_labels_grow, stmt_grows, stmts_grow, groups_grow}
 use Rattle.cx_lright.proofs.Lines as lines
 use Rattle.cx_lright.proofs.Locals as locals
-use Rattle.cx_lright.proofs.Locals.{Matches, Kept, matches_kept, matches_set}
+use Rattle.cx_lright.proofs.Locals.{matches_kept, matches_set}
 use Rattle.cx_lright.proofs.Loops as loops_of
-use Rattle.cx_lright.proofs.Loops.{Loop, whiles, repeats, fors, loop_code, DoesLoops, test_goes, loop_by}
+use Rattle.cx_lright.proofs.Loops.{Loop, whiles, repeats, fors, DoesLoops, test_goes, loop_by}
 use Rattle.cx_lright.proofs.Machine as machine
 use Rattle.cx_lright.proofs.Machine.{Coded, Keeps, HasAt, Ends, ends_as, ends_on, still_ends, Goes, jump_ends, return_ends}
 use Rattle.cx_lright.proofs.Needing.{ones}
 use Rattle.cx_lright.proofs.Rests.{rest_of, after_number}
-use Rattle.cx_lright.proofs.Switches.{Holds, GroupsGo, switch_goes}
-use Rattle.cx_lright.proofs.Values.{does_of, go_on_twice}
+use Rattle.cx_lright.proofs.Switches.{GroupsGo, switch_goes}
+use Rattle.cx_lright.proofs.Values.{does_of}
 use Rattle.cx_lright.proofs.Ways.{finish, finish_valued, finish_after, finish_unbroken, Fits, Escapes, Normally, DoesStmt, fits_after, ahead_goes}
 use Rattle.cx_lright.specs.Fine.{StmtFine, KindStmtFine, StmtsFine, GroupsFine}
 use Rattle.cx_lright.specs.Right.{GivesNumbers}
 use Rattle.cx_world.specs.Calls.{leave}
-use Rattle.cx_world.specs.World.{World, Did, gives, halts, go_on, Locals, set_number, turns_spent, others, returned as the_return}
+use Rattle.cx_world.specs.World.{World, gives, go_on, Locals, set_number, turns_spent}
 
 -- ---- parts of statements
 

@@ -1,12 +1,12 @@
 -- The labels of a switch go to the group that the value goes to.
-use Rattle.std.proofs.Common.{ℕ, suc, ℤ, ◌≡◌, ◌+◌, ◌<◌, ◌≤◌, ◌||◌, Bool, true, false, List, [], ◌∷◌, length, Option, Some, None, refl, sym, ap, ◌∙◌, subst, arith}
+use Rattle.std.proofs.Common.{ℕ, ℤ, ◌≡◌, ◌+◌, ◌<◌, ◌≤◌, ◌||◌, Bool, true, false, List, [], ◌∷◌, Option, Some, None, refl, sym, ap, ◌∙◌, arith}
 use Rattle.std.specs.Prelude.{slice_get, slice_set, if◌then◌else◌}
 use Rattle.std.specs.List.{list_any}
 use Rattle.std.specs.Ordering.{int_eq}
 use Rattle.std.proofs.lemmas.List.{length-set}
 use Rattle.cx_base.specs.declared.span.Span.{Span}
 use Rattle.cx_base.specs.declared.token.Token.{Token}
-use Rattle.cx_cmean.specs.Statements.{State, Ran, normal, unbroken, after, label_number, is_label, is_default, has_label, goes_to, execs_by, groups_by, from_label}
+use Rattle.cx_cmean.specs.Statements.{State, Ran, unbroken, after, label_number, is_label, is_default, has_label, goes_to, execs_by, groups_by, from_label}
 use Rattle.cx_ctree.specs.Exprs.{ExprTree, span_of}
 use Rattle.cx_ctree.specs.Stmts.{StmtTree, StmtTrees, GroupTrees, no_group, also_group}
 use Rattle.cx_ctree.specs.Types.{TypeTree}
@@ -21,9 +21,9 @@ use Rattle.cx_lright.proofs.Afters.{in_setting}
 use Rattle.cx_lright.proofs.Grows as grows
 use Rattle.cx_lright.proofs.Grows.{labels_grow, all_labels_grow}
 use Rattle.cx_lright.proofs.Lines.{const_ends}
-use Rattle.cx_lright.proofs.Locals.{Matches, Kept, kept_set, kept_unset, kept_trans, matches_kept, get-set_same, get-set_other, get-unset}
+use Rattle.cx_lright.proofs.Locals.{Kept, kept_set, kept_unset, matches_kept, get-set_same, get-set_other}
 use Rattle.cx_lright.proofs.Machine as machine
-use Rattle.cx_lright.proofs.Machine.{Coded, Keeps, HasAt, Ends, ends_as, Goes, goes_as, branch_ends, goes_ahead}
+use Rattle.cx_lright.proofs.Machine.{Coded, HasAt, Ends, ends_as, Goes, goes_as, branch_ends, goes_ahead}
 use Rattle.cx_lright.proofs.Ways.{finish, Fits}
 use Rattle.cx_world.specs.World.{Locals}
 

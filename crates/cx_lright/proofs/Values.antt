@@ -1,11 +1,10 @@
 -- The code of an expression does what the expression gives.
-use Rattle.std.proofs.Common.{ℕ, suc, ℤ, pos, negsuc, ◌≡◌, ◌+◌, ◌<◌, ◌≤◌, ◌-ℤ◌, Bool, true, false, not, List, [], ◌∷◌, length, Some, refl, sym, ap, ◌∙◌, subst, arith}
+use Rattle.std.proofs.Common.{ℕ, ℤ, pos, negsuc, ◌≡◌, ◌+◌, ◌<◌, ◌≤◌, ◌-ℤ◌, Bool, true, false, not, List, ◌∷◌, length, Some, refl, sym, ap, ◌∙◌, subst, arith}
 use Rattle.std.specs.Prelude.{slice_get, slice_set, max, if◌then◌else◌}
-use Rattle.cx_base.specs.declared.number.CInt.{CInt}
 use Rattle.cx_base.specs.declared.span.Span.{Span}
 use Rattle.cx_cconst.specs.Constants.{converted, truth, number_type}
 use Rattle.cx_cmean.specs.Expressions.{object_at, further, target, eval, eval_kind, place, place_kind}
-use Rattle.cx_cmean.specs.Numbers.{value_type, number_of, as_type, is_zero, as_number, on_one, operate, compared_in, first_in, second_in}
+use Rattle.cx_cmean.specs.Numbers.{value_type, number_of, as_type, is_zero, as_number, operate, compared_in, first_in, second_in}
 use Rattle.cx_cmean.specs.Program.{offset_in, size_in}
 use Rattle.cx_ctree.specs.Exprs.{ExprTree, node, ExprKindTree, num, name, local, global, unary, binary, cond, cast, size_of, size_of_expr, index, member, arrow, deref, address, span_of, type_of}
 use Rattle.cx_ctree.specs.Types.{TypeTree}
@@ -19,25 +18,25 @@ use Rattle.cx_goto.specs.Trees as trees
 use Rattle.cx_goto.specs.declared.code.End.TheVariants.{Jump}
 use Rattle.cx_goto.specs.declared.code.Op.TheVariants.{Sub, Xor}
 use Rattle.cx_lcode.specs.Items as items
-use Rattle.cx_lcode.specs.Items.{Item, start, converts}
+use Rattle.cx_lcode.specs.Items.{Item, start}
 use Rattle.cx_lcode.specs.Needs as size
 use Rattle.cx_lcode.specs.Needs.{Needs, of_two, needs, kind_needs, place_need, kind_place_need}
-use Rattle.cx_lcode.specs.Places.{Last, both, either, comparing, computing, sort_of, last_of_two, last, kind_last, last_place, kind_last_place}
+use Rattle.cx_lcode.specs.Places.{Last, both, either, comparing, last_of_two, last, kind_last, last_place, kind_last_place}
 use Rattle.cx_lcode.specs.Values as values
 use Rattle.cx_lcode.specs.Values.{Code, rel_of, binary_code, code_of, kind_code, place_code, kind_place_code}
 use Rattle.cx_lright.proofs.Does.{DoesVal, DoesTest, by_truth, by_number, Does, does_as, does_by_value, does_by_test, number_does, two_numbers}
 use Rattle.cx_lright.proofs.Grows.{Grows, grows, kind_grows, place_grows}
 use Rattle.cx_lright.proofs.Lines.{const_ends, with_number, sure_ends, further_ends, object_ends}
-use Rattle.cx_lright.proofs.Locals.{Matches, Kept, kept_refl, kept_trans, matches_kept, kept_set, kept_unset, get-set_same, get-set_other, get-unset}
-use Rattle.cx_lright.proofs.Machine.{Coded, Keeps, HasAt, Ends, ends_as, ends_on, follow_on, line_ends, still_ends, Goes, jump_ends, branch_ends, goes_ahead, goes_either}
+use Rattle.cx_lright.proofs.Locals.{Matches, Kept, kept_refl, kept_trans, matches_kept, kept_set, kept_unset, get-set_same, get-unset}
+use Rattle.cx_lright.proofs.Machine.{Coded, Keeps, HasAt, Ends, ends_as, ends_on, line_ends, still_ends, Goes, jump_ends, branch_ends, goes_ahead, goes_either}
 use Rattle.cx_lright.proofs.Needing.{ones, place_ones, both_in_operation}
 use Rattle.cx_lright.proofs.Operators.{operation_does}
-use Rattle.cx_lright.proofs.Rests.{AfterVal, AfterTest, Rest, after_number, rest_binary, rest_of, kind_rest}
+use Rattle.cx_lright.proofs.Rests.{Rest, after_number, rest_binary, rest_of, kind_rest}
 use Rattle.cx_lright.proofs.Sums.{complement_is}
 use Rattle.cx_lright.specs.Fine.{takes, Fine, KindFine, PlaceFine, KindPlaceFine}
 use Rattle.cx_sname.specs.File.{Declared}
 use Rattle.cx_world.specs.Access.{address_of}
-use Rattle.cx_world.specs.World.{World, Did, gives, halts, go_on, Locals, set_number, local_value}
+use Rattle.cx_world.specs.World.{World, Did, gives, halts, go_on, Locals, set_number}
 
 -- ---- && and ||
 

@@ -1,5 +1,5 @@
 -- What a statement's run shows, where each way on is given.
-use Rattle.std.proofs.Common.{ℕ, zero, suc, ℤ, ◌≡◌, ◌+◌, ◌<◌, ◌≤◌, Bool, true, false, List, length, refl, sym, ap, ◌∙◌, arith}
+use Rattle.std.proofs.Common.{ℕ, zero, suc, ◌≡◌, ◌+◌, ◌<◌, ◌≤◌, Bool, true, List, length, refl, arith}
 use Rattle.cx_base.specs.declared.token.Token.{Token}
 use Rattle.cx_cmean.specs.Statements.{State, Ran, normal, broken, continued, stops, valued, after, looped, unbroken, with_turn, turned, in_world, exec_by}
 use Rattle.cx_ctree.specs.Stmts.{StmtTree}
@@ -10,7 +10,7 @@ use Rattle.cx_lcode.specs.Needs.{stmt_need}
 use Rattle.cx_lcode.specs.Places.{stmt_last}
 use Rattle.cx_lcode.specs.Statements.{stmt_code}
 use Rattle.cx_lright.proofs.Afters.{in_setting}
-use Rattle.cx_lright.proofs.Locals.{Matches, Kept, matches_kept, kept_unset, length-unset}
+use Rattle.cx_lright.proofs.Locals.{Matches, Kept, matches_kept, kept_unset}
 use Rattle.cx_lright.proofs.Machine.{Coded, Keeps, HasAt, Ends, Goes, goes_ahead, goes_back, goes_spent}
 use Rattle.cx_lright.specs.Fine.{StmtFine}
 use Rattle.cx_world.specs.World.{World, Did, gives, halts, Locals}
