@@ -4,3 +4,4 @@ pub mod ListsTold
 pub mod ListsThere
 pub mod Clauses
 pub mod Turns
+pub mod Wholes

@@ -12,6 +12,10 @@ pub record Begins {O A : Type 0} (Spells : List O → A → Type 0) (os : List O
   pub tree : A
   pub spelled_so : Spells (os ++ more) tree
 
+-- whatever follows ends what stands before it
+abbrev pub AnyRest : {O : Type 0} → List O → Type 0
+AnyRest os = Unit {0}
+
 -- no front spells anything that is followed by what ends it
 abbrev pub NoneIn : {O A : Type 0} → (List O → A → Type 0) → (List O → Type 0) → List O → Type 0
 NoneIn Spells Ends os = (a rest : List _) (x : _) → os ≡ a ++ rest → Spells a x → Ends rest → ⊥

@@ -1,5 +1,6 @@
 -- The grammar of cells on examples, by what is read.
 use Rattle.std.specs.Prelude.{◌≡◌, ℕ, ◌+◌, slice_range, refl, codes, List, [], ◌∷◌, Some, pos, true, false}
+use Rattle.cx_cword.specs.declared.lexeme.LexemeKind.TheVariants as cl
 use Rattle.cx_cword.specs.declared.word.Punctuator.TheVariants as p
 use Rattle.cx_cword.specs.Reading.{span_between}
 use Rattle.cx_tsyn.specs.Words.{WordTree}
@@ -14,7 +15,7 @@ use Rattle.cx_tlin.specs.Reading.{name_at, number_at, part_at, lin_from, body_at
 use Rattle.cx_tcell.specs.Reading.{offset_at, null_at, pointer_at, holds_at, cell_at}
 
 abbrev at : ℕ → ℕ → TypeLexemeKind → TypeLexeme
-at first past kind = record { span = span_between first past; kind = kind }
+at first past kind = record { span = span_between first past; kind = kind; c_kind = cl.Other }
 
 abbrev text : List ℕ
 text = codes "ptr v(n)+8 null;"

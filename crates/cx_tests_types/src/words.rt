@@ -1,10 +1,10 @@
-use cx_base::List;
-use cx_cword::Punctuator as Mark;
+use cx_base::{List, Names};
+use cx_cword::{Keyword, LexemeKind, Punctuator as Mark};
 use cx_lex::lex;
 use cx_reader::split;
 use cx_tword::{
-    TypeLexeme, TypeLexemeKind as Kind, TypeWord as Word, is_c_word, is_mark, is_name, is_word,
-    type_lexemes, type_word_of,
+    TypeLexeme, TypeLexemeKind as Kind, TypeWord as Word, is_mark, is_name, is_word, type_lexemes,
+    type_word_of,
 };
 use std::alloc::Global;
 use std::process::Abort;
@@ -14,7 +14,8 @@ use std::test::Fail;
 pub fn lexemes_of(rt: &impl Abort, alloc: Global, text: &str) -> Result<List<TypeLexeme>, Fail> {
     assert!(rt; text.len() <= 1000);
     let tokens = lex(alloc, text.as_bytes())?;
-    Ok(type_lexemes(alloc, text.as_bytes(), tokens.as_slice())?)
+    let names = Names::new(alloc)?;
+    Ok(type_lexemes(alloc, &names, text.as_bytes(), tokens.as_slice())?)
 }
 
 /// Texts of one token each, and what it is.
@@ -166,10 +167,19 @@ fn first_lexemes(rt: HostRuntime) -> Result<(), Fail> {
 fn texts(rt: HostRuntime) {
     assert!(rt; type_word_of(b"void") == Some(Word::Void));
     assert!(rt; type_word_of(b"u8").is_none());
-    for word in ["int", "_Atomic", "asm", "typeof", "__thread", "__seg_fs"] {
-        assert!(rt; is_c_word(word.as_bytes()));
-    }
-    for word in ["region", "f", "ints", "u8", "thread"] {
-        assert!(rt; !is_c_word(word.as_bytes()));
-    }
+}
+
+#[test]
+fn words_of_c(rt: HostRuntime) -> Result<(), Fail> {
+    let lexemes = lexemes_of(&rt, rt.alloc(), "int typeof __thread u8 8 =")?;
+    let [int, typeof_, thread, name, number, mark] = lexemes.as_slice() else {
+        panic!(&rt; "not six tokens");
+    };
+    assert!(&rt; int.c_kind == LexemeKind::Keyword(Keyword::Int));
+    assert!(&rt; typeof_.c_kind == LexemeKind::Keyword(Keyword::Reserved));
+    assert!(&rt; thread.c_kind == LexemeKind::Keyword(Keyword::Reserved));
+    assert!(&rt; name.c_kind == LexemeKind::Name(None));
+    assert!(&rt; number.c_kind == LexemeKind::Other);
+    assert!(&rt; mark.c_kind == LexemeKind::Punctuator(Mark::Assign));
+    Ok(())
 }

@@ -1,10 +1,14 @@
 -- What the tests on a lexeme tell, and a lexeme of each kind.
-use Rattle.std.proofs.Common.{◌≡◌, true, refl, sym, ap, ◌∙◌}
+use Rattle.std.proofs.Common.{◌≡◌, true, None, refl, sym, ap, ◌∙◌}
 use denote.Enum.Bare.{same_true, true_same}
+use Rattle.cx_cword.specs.declared.lexeme.LexemeKind.{LexemeKind}
+use Rattle.cx_cword.specs.declared.lexeme.LexemeKind.TheVariants as cl
+use Rattle.cx_cword.specs.declared.word.Keyword.TheVariants as k
 use Rattle.cx_cword.specs.declared.word.Punctuator.{Punctuator}
 use Rattle.cx_cword.specs.contracts.word.Punctuator.{the_type as the_punctuators}
 use Rattle.cx_cword.specs.Reading.{span_between}
 use Rattle.cx_tword.specs.declared.word.TypeWord.{TypeWord}
+use Rattle.cx_tword.specs.declared.word.TypeWord.TheVariants as w
 use Rattle.cx_tword.specs.contracts.word.TypeWord.{the_type as the_words}
 use Rattle.cx_tword.specs.declared.lexeme.TypeLexeme.{TypeLexeme}
 use Rattle.cx_tword.specs.declared.lexeme.TypeLexemeKind.{TypeLexemeKind}
@@ -41,12 +45,21 @@ word_so word o e = ap (kind_is_word word) e ∙ true_same the_words word word re
 pub name_so : (o : TypeLexeme) → o.kind ≡ l.Name → is_name o ≡ true
 name_so o e = ap kind_is_name e
 
--- lexemes that stand nowhere
+-- ---- lexemes that stand nowhere
+
+-- what a reserved word is in a type of C
+abbrev pub c_word_of : TypeWord → LexemeKind
+c_word_of w.Struct = cl.Keyword k.Struct
+c_word_of w.Union = cl.Keyword k.Union
+c_word_of w.For = cl.Keyword k.For
+c_word_of w.Void = cl.Keyword k.Void
+c_word_of _ = cl.Name None
+
 abbrev pub a_mark : Punctuator → TypeLexeme
-a_mark mark = record { span = span_between 0 0; kind = l.Punctuator mark }
+a_mark mark = record { span = span_between 0 0; kind = l.Punctuator mark; c_kind = cl.Punctuator mark }
 
 abbrev pub a_word : TypeWord → TypeLexeme
-a_word word = record { span = span_between 0 0; kind = l.Word word }
+a_word word = record { span = span_between 0 0; kind = l.Word word; c_kind = c_word_of word }
 
 abbrev pub a_name : TypeLexeme
-a_name = record { span = span_between 0 0; kind = l.Name }
+a_name = record { span = span_between 0 0; kind = l.Name; c_kind = cl.Name None }

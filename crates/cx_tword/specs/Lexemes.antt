@@ -1,11 +1,15 @@
 -- What a token of a type file is for the grammar.
-use Rattle.std.specs.Prelude.{ℕ, pos, Bool, ◌&&◌, ◌||◌, ◌==◌, nat_le, List, map, Option, Some, None, if◌then◌else◌, codes}
+use Rattle.std.specs.Prelude.{ℕ, pos, Bool, ◌&&◌, ◌||◌, ◌==◌, nat_le, List, map, position, Option, Some, None, if◌then◌else◌, codes}
+use Rattle.std.specs.Str.{bytes_eq}
 use Rattle.cx_base.specs.declared.number.CInt.{CInt}
 use Rattle.cx_base.specs.declared.token.Token.{Token}
 use Rattle.cx_base.specs.declared.token.TokenKind.{TokenKind}
 use Rattle.cx_base.specs.declared.token.TokenKind.TheVariants as t
+use Rattle.cx_cword.specs.declared.lexeme.LexemeKind.{LexemeKind}
+use Rattle.cx_cword.specs.declared.lexeme.LexemeKind.TheVariants as cl
+use Rattle.cx_cword.specs.declared.word.Keyword.{Keyword}
 use Rattle.cx_cword.specs.declared.word.Punctuator.{Punctuator}
-use Rattle.cx_cword.specs.Words.{punctuator_of}
+use Rattle.cx_cword.specs.Words.{keyword_of, punctuator_of}
 use Rattle.cx_cword.specs.Integers.{int_of}
 use Rattle.cx_cword.specs.Lexemes.{text_of}
 use Rattle.cx_tword.specs.declared.word.TypeWord.{TypeWord}
@@ -55,9 +59,30 @@ kind_of t.Char text = l.Other
 kind_of t.Text text = l.Other
 kind_of t.Punct text = punctuator_kind (punctuator_of text)
 
-abbrev pub type_lexeme_of : List ℕ → Token → TypeLexeme
-type_lexeme_of bytes token = record { span = token.span; kind = kind_of token.kind (text_of bytes token.span) }
+-- what a word is in a type of C, where names is the numbering of the names of the C file
+abbrev pub c_word : List (List ℕ) → List ℕ → Option Keyword → LexemeKind
+c_word names text (Some k) = cl.Keyword k
+c_word names text None = cl.Name (position (bytes_eq text) names)
+
+abbrev pub c_punctuator : Option Punctuator → LexemeKind
+c_punctuator None = cl.Other
+c_punctuator (Some p) = cl.Punctuator p
+
+-- no constant and no string has a place in a type of C
+abbrev pub c_kind_of : List (List ℕ) → TokenKind → List ℕ → LexemeKind
+c_kind_of names t.Name text = c_word names text (keyword_of text)
+c_kind_of names t.Punct text = c_punctuator (punctuator_of text)
+c_kind_of names t.Number text = cl.Other
+c_kind_of names t.Char text = cl.Other
+c_kind_of names t.Text text = cl.Other
+
+abbrev pub type_lexeme_of : List (List ℕ) → List ℕ → Token → TypeLexeme
+type_lexeme_of names bytes token = record {
+  span = token.span;
+  kind = kind_of token.kind (text_of bytes token.span);
+  c_kind = c_kind_of names token.kind (text_of bytes token.span);
+}
 
 -- one for each token, in order
-abbrev pub type_lexemes : List ℕ → List Token → List TypeLexeme
-type_lexemes bytes tokens = map (type_lexeme_of bytes) tokens
+abbrev pub type_lexemes : List (List ℕ) → List ℕ → List Token → List TypeLexeme
+type_lexemes names bytes tokens = map (type_lexeme_of names bytes) tokens

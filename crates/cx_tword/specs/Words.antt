@@ -1,7 +1,7 @@
 -- The words that a type file reserves.
-use Rattle.std.specs.Prelude.{ℕ, Bool, ◌&&◌, ◌==◌, nat_eq, nat_lt, List, [], ◌∷◌, length, drop, Option, Some, None, is_some, if◌then◌else◌, codes}
+use Rattle.std.specs.Prelude.{ℕ, Bool, ◌&&◌, ◌==◌, nat_eq, nat_lt, List, [], ◌∷◌, length, drop, Option, Some, None, if◌then◌else◌, codes}
 use Rattle.std.specs.List.{starts_with}
-use Rattle.cx_cword.specs.Words.{look_up, keyword_of}
+use Rattle.cx_cword.specs.Words.{look_up}
 use Rattle.cx_cword.specs.Integers.{digits_of}
 use Rattle.cx_tword.specs.declared.word.TypeWord.{TypeWord}
 use Rattle.cx_tword.specs.declared.word.TypeWord.TheVariants as w
@@ -26,7 +26,3 @@ number_in text = let read = digits_of 10 0 text in if nat_lt 0 (length text) && 
 -- the number that what follows the front spells, if the text begins with it: as 12 of any12 after any
 unfoldable pub number_after : List ℕ → List ℕ → Option ℕ
 number_after front text = if starts_with nat_eq text front then number_in (drop (length front) text) else None
-
--- a C file reads the text as a keyword, or as a word that GNU C adds
-abbrev pub is_c_word : List ℕ → Bool
-is_c_word text = is_some (keyword_of text)

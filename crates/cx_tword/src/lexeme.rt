@@ -4,8 +4,8 @@ ghost use Rattle.cx_tword.specs.Lexemes as spec;
 
 use crate::size::number_after;
 use crate::word::{TypeWord, type_word_of};
-use cx_base::{CInt, List, NoMemory, Span, Token, TokenKind};
-use cx_cword::{Punctuator, int_of, punctuator_of};
+use cx_base::{CInt, List, Names, NoMemory, Span, Token, TokenKind};
+use cx_cword::{LexemeKind, Punctuator, int_of, keyword_of, punctuator_of};
 use std::alloc::Global;
 
 /// What a token of a type file is for the grammar.
@@ -30,11 +30,15 @@ pub enum TypeLexemeKind {
     Other,
 }
 
-/// A token as the grammar of type files sees it: the piece of the text that it is, and what it is.
+/// A token as the grammar of type files sees it: the piece of the text that it is, what it is, and what it
+/// is in a type of C.
 #[derive(Clone, Copy, Debug, PartialEq, Eq)]
 pub struct TypeLexeme {
     pub span: Span,
     pub kind: TypeLexemeKind,
+    /// A keyword, a punctuator, or a name with its number in the C file, if it has one there; `Other` for
+    /// a constant and a string literal.
+    pub c_kind: LexemeKind,
 }
 
 fn any_kind(size: u32) -> TypeLexemeKind
@@ -113,29 +117,60 @@ fn kind_of(kind: TokenKind, text: &[u8]) -> TypeLexemeKind
     }
 }
 
-fn type_lexeme_of(bytes: &[u8], token: Token) -> TypeLexeme
+fn c_word(names: &Names, text: &[u8]) -> LexemeKind
+    ensures { result ≡ spec.c_kind_of names.now t.Name text.now }
+{
+    match keyword_of(text) {
+        Some(keyword) => LexemeKind::Keyword(keyword),
+        None => LexemeKind::Name(names.number_of(text)),
+    }
+}
+
+fn c_punctuator(punctuator: Option<Punctuator>) -> LexemeKind
+    ensures { result ≡ spec.c_punctuator punctuator }
+{
+    match punctuator {
+        Some(punctuator) => LexemeKind::Punctuator(punctuator),
+        None => LexemeKind::Other,
+    }
+}
+
+fn c_kind_of(names: &Names, kind: TokenKind, text: &[u8]) -> LexemeKind
+    ensures { result ≡ spec.c_kind_of names.now kind text.now }
+{
+    match kind {
+        TokenKind::Name => c_word(names, text),
+        TokenKind::Punct => c_punctuator(punctuator_of(text)),
+        TokenKind::Number | TokenKind::Char | TokenKind::Text => LexemeKind::Other,
+    }
+}
+
+fn type_lexeme_of(names: &Names, bytes: &[u8], token: Token) -> TypeLexeme
     requires { token.span.past ≤ length bytes.now }
-    ensures { result ≡ spec.type_lexeme_of bytes.now token }
+    ensures { result ≡ spec.type_lexeme_of names.now bytes.now token }
 {
     let text = &bytes[token.span.first as usize..token.span.past as usize];
     TypeLexeme {
         span: token.span,
         kind: kind_of(token.kind, text),
+        c_kind: c_kind_of(names, token.kind, text),
     }
 }
 
-/// What each of the tokens of the text of a type file is for the grammar, in order.
+/// What each of the tokens of the text of a type file is for the grammar, in order, where `names` numbers
+/// the names of the C file.
 pub fn type_lexemes(
     alloc: Global,
+    names: &Names,
     bytes: &[u8],
     tokens: &[Token],
 ) -> Result<List<TypeLexeme>, NoMemory>
     requires { All (λ t. t.span.past ≤ length bytes.now) tokens.now }
-    ensures { IfOk result (λ ls. ls ≡ spec.type_lexemes bytes.now tokens.now) }
+    ensures { IfOk result (λ ls. ls ≡ spec.type_lexemes names.now bytes.now tokens.now) }
 {
     let mut lexemes = List::new(alloc);
     for token in tokens {
-        lexemes.push(type_lexeme_of(bytes, *token))?;
+        lexemes.push(type_lexeme_of(names, bytes, *token))?;
     }
     Ok(lexemes)
 }

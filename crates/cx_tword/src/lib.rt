@@ -9,4 +9,4 @@ mod word;
 
 pub use lexeme::{TypeLexeme, TypeLexemeKind, type_lexemes};
 pub use mark::{is_mark, is_name, is_word};
-pub use word::{TypeWord, is_c_word, type_word_of};
+pub use word::{TypeWord, type_word_of};

@@ -2,7 +2,7 @@ ghost use Rattle.std.specs.Prelude.{◌≡◌, map};
 ghost use Rattle.cx_cword.specs.Words.{look_up};
 ghost use Rattle.cx_tword.specs.Words as spec;
 
-use cx_cword::{keyword_of, look_up};
+use cx_cword::look_up;
 
 /// A word that a type file reserves, so that it is no name there. The reserved words with a size, as
 /// `any12` and `u8`, stand beside these in `TypeLexemeKind`.
@@ -60,12 +60,4 @@ pub fn type_word_of(text: &[u8]) -> Option<TypeWord>
     ensures { result ≡ spec.type_word_of text.now }
 {
     look_up(&TYPE_WORDS, text)
-}
-
-/// Whether a C file reads the text as a keyword of C11 (6.4.1) or as a word that GNU C adds. No
-/// function has such a name.
-pub fn is_c_word(text: &[u8]) -> bool
-    ensures { result ≡ spec.is_c_word text.now }
-{
-    keyword_of(text).is_some()
 }
