@@ -1,0 +1,3 @@
+pub mod Pointees
+pub mod Reading
+pub mod Words
