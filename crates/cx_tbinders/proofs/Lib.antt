@@ -1,0 +1,4 @@
+pub mod Told
+pub mod Emptiness
+pub mod Parts
+mod Examples

@@ -1,0 +1,9 @@
+use Rattle.std.proofs.Common.{◌≡◌, map, drop}
+use Rattle.cx_tsyn.specs.Words.{word_tree}
+use Rattle.cx_tsyn.specs.Cells.{cell_tree}
+use Rattle.cx_tscope.specs.Faults.{first}
+use Rattle.cx_tbinders.specs.Uses.{undetermined_by_cell}
+use Rattle.cx_tbinders.proofs.items.undetermined_by_cell.Given as goal
+
+abbrev pub invariant-loop-binder : goal.invariant-loop-binder
+invariant-loop-binder l = first (undetermined_by_cell (cell_tree l.cell) (map word_tree (drop l.binder-index l.binders))) ≡ first (undetermined_by_cell (cell_tree l.cell) (map word_tree l.binders))
