@@ -1,0 +1,5 @@
+pub mod Turns
+pub mod Told
+pub mod There
+pub mod Laws
+mod Examples
