@@ -1,0 +1,3 @@
+pub mod Allocs
+pub mod Reading
+pub mod Parts

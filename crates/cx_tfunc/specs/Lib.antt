@@ -1,0 +1,3 @@
+pub mod Funcs
+pub mod Reading
+pub mod Parts
