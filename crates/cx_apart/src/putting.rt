@@ -71,7 +71,7 @@ fn with_cell(env: Env, c: Cell) -> Result<Env, EnvFault>
 
 /// The state in which the cell is known, and no other that is not shown to lie apart from it. `Limit`
 /// exactly where the cells would be more than 256. What stood before a store of bytes that read as the
-/// cell's value stands after it so.
+/// cell's value, into a region whose type is not shared, stands after it so.
 pub fn put_cell(env: Env, c: Cell) -> Result<Env, EnvFault>
     ensures exact { Agrees result (put env c) }
     ensures sound { IfOk result (λ next. PutStands env c next) }
