@@ -19,11 +19,11 @@ use Rattle.cx_state.specs.declared.state.Env.{Env}
 use Rattle.cx_fact.proofs.Regions.{any-filter, one_of, same_fact}
 
 -- ---- tests
-or_left : (a b : Bool) → a ≡ true → a || b ≡ true
+pub or_left : (a b : Bool) → a ≡ true → a || b ≡ true
 or_left true b e = refl
 or_left false b e = absurd (let w : false ≡ true = e in cc)
 
-or_right : (a b : Bool) → b ≡ true → a || b ≡ true
+pub or_right : (a b : Bool) → b ≡ true → a || b ≡ true
 or_right true b e = refl
 or_right false b e = e
 
@@ -34,11 +34,11 @@ not_false : (b : Bool) → not b ≡ true → b ≡ false
 not_false true e = absurd (let w : false ≡ true = e in cc)
 not_false false e = refl
 
-same_number : (m n : ℕ) → (m == n) ≡ true → m ≡ n
+pub same_number : (m n : ℕ) → (m == n) ≡ true → m ≡ n
 same_number m n e = grind (arith, nat_tests)
 
 -- ---- bases of blocks
-has_rest : (z : Bool) (x : ℤ) (xs : List ℤ) (b : ℕ) → is_base xs b ≡ true → is_base (cond z xs (x ∷ xs)) b ≡ true
+pub has_rest : (z : Bool) (x : ℤ) (xs : List ℤ) (b : ℕ) → is_base xs b ≡ true → is_base (cond z xs (x ∷ xs)) b ≡ true
 has_rest true x xs b h = h
 has_rest false x xs b h = or_right (same_z (pos b) x) (is_base xs b) h
 
@@ -61,7 +61,7 @@ live_by : (n : Bool) (z : ℤ) → ((n ≡ true) × (z ≡ pos 0) → ⊥) → (
 live_by true z h k q = h (refl, q)
 live_by false z h k q = k refl q
 
-fresh_live : (run : Run) (v : ℕ → ℤ) (env : Env) (locals : List (Option ℤ)) (memory : List Region) (s : ℕ) (f : Fact) → StandsAtAccess run v env locals memory → fact_at env.facts s ≡ Some f → (IsNull v f s → ⊥) → is_one_of env.fresh s ≡ true → v s ≢ pos 0
+pub fresh_live : (run : Run) (v : ℕ → ℤ) (env : Env) (locals : List (Option ℤ)) (memory : List Region) (s : ℕ) (f : Fact) → StandsAtAccess run v env locals memory → fact_at env.facts s ≡ Some f → (IsNull v f s → ⊥) → is_one_of env.fresh s ≡ true → v s ≢ pos 0
 fresh_live run v env locals memory s f S e live q =
     let h = one_of (FreshStands run v env.facts memory) s env.fresh S.fresh q in
     let g = same_fact env.facts s h.f f h.fact e in

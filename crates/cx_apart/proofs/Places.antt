@@ -36,7 +36,7 @@ made f (x ∷ xs) zero y e = record { x = x; there = refl; same = cc }
 made f (x ∷ xs) (suc k) y e = let h = made f xs k y e in record { x = h.x; there = h.there; same = h.same }
 
 -- ---- regions
-all_get : {X : Type 0} (P : X → Type 0) (xs : List X) (k : ℕ) (x : X) → All P xs → slice_get xs k ≡ Some x → P x
+pub all_get : {X : Type 0} (P : X → Type 0) (xs : List X) (k : ℕ) (x : X) → All P xs → slice_get xs k ≡ Some x → P x
 all_get P xs k x h e = subst P (get_or_from_slice_get xs k x x e) (h k x (slice_get_within xs k x e))
 
 pub region_all : (P : Region → Type 0) (rs : List Region) (k : ℕ) (r : Region) → All P rs → slice_get rs k ≡ Some r → P r

@@ -39,7 +39,7 @@ get_at (x ∷ xs) (suc k) d l = get_at xs k d (omega (arith, l))
 any_at : {X : Type 0} (P : X → Type 0) (xs : List X) (k : ℕ) (x : X) → slice_get xs k ≡ Some x → P x → Any P xs
 any_at P xs k x e h = (k, x, slice_get_within xs k x e, get_or_from_slice_get xs k x x e, h)
 
-any_get : {X : Type 0} (P : X → Type 0) (xs : List X) (h : Any P xs) → slice_get xs h.0 ≡ Some h.1
+pub any_get : {X : Type 0} (P : X → Type 0) (xs : List X) (h : Any P xs) → slice_get xs h.0 ≡ Some h.1
 any_get P xs h = get_at xs h.0 h.1 h.2 ∙ ap Some h.3
 
 get_drop : {X : Type 0} (n : ℕ) (xs : List X) (k : ℕ) → slice_get (drop n xs) k ≡ slice_get xs (n + k)
@@ -52,7 +52,7 @@ set_here [] i x y e = absurd (cc)
 set_here (z ∷ xs) zero x y e = refl
 set_here (z ∷ xs) (suc i) x y e = set_here xs i x y e
 
-equal_or_not : (j k : ℕ) (R : Type 0) → (j ≡ k → R) → (j ≢ k → R) → R
+pub equal_or_not : (j k : ℕ) (R : Type 0) → (j ≡ k → R) → (j ≢ k → R) → R
 equal_or_not zero zero R f g = f refl
 equal_or_not zero (suc k) R f g = g (λ e. cc)
 equal_or_not (suc j) zero R f g = g (λ e. cc)

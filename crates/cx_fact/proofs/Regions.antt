@@ -16,10 +16,10 @@ use Rattle.cx_state.specs.declared.state.Fact.{Fact}
 use Rattle.cx_state.specs.declared.state.Env.{Env}
 
 -- ---- some element of a list
-any-shift : {X : Type 0} (P : X → Type 0) (y : X) (xs : List X) → Any P xs → Any P (y ∷ xs)
+pub any-shift : {X : Type 0} (P : X → Type 0) (y : X) (xs : List X) → Any P xs → Any P (y ∷ xs)
 any-shift P y xs h = (suc h.0, h.1, omega (arith, h.2), h.3, h.4)
 
-first_any : {X : Type 0} (P : X → Type 0) (x : X) (xs : List X) → P x → Any P (x ∷ xs)
+pub first_any : {X : Type 0} (P : X → Type 0) (x : X) (xs : List X) → P x → Any P (x ∷ xs)
 first_any P x xs h = (0, x, omega arith, refl, h)
 
 any_by : {X : Type 0} (P : X → Type 0) (R : Type 0) (x : X) (xs : List X) (k : ℕ) (y : X) → k < length (x ∷ xs) → slice_index_or (x ∷ xs) k y ≡ y → P y → (P x → R) → (Any P xs → R) → R
@@ -27,10 +27,10 @@ any_by P R x xs zero y l e h f g = f (subst P (sym e) h)
 any_by P R x xs (suc k) y l e h f g = g (k, y, omega (arith, l), e, h)
 
 -- by the first element, or one of the others
-any_cases : {X : Type 0} (P : X → Type 0) (R : Type 0) (x : X) (xs : List X) → Any P (x ∷ xs) → (P x → R) → (Any P xs → R) → R
+pub any_cases : {X : Type 0} (P : X → Type 0) (R : Type 0) (x : X) (xs : List X) → Any P (x ∷ xs) → (P x → R) → (Any P xs → R) → R
 any_cases P R x xs h f g = any_by P R x xs h.0 h.1 h.2 h.3 h.4 f g
 
-any_none : {X : Type 0} (P : X → Type 0) (R : Type 0) → Any P [] → R
+pub any_none : {X : Type 0} (P : X → Type 0) (R : Type 0) → Any P [] → R
 any_none P R h = absurd (omega (arith, h.2))
 
 filter_by : {X : Type 0} (P : X → Type 0) (q : X → Bool) (x : X) (xs : List X) (b : Bool) → q x ≡ b → Any P (cond b (x ∷ filter q xs) (filter q xs)) → (Any P (filter q xs) → Any (λ y. (q y ≡ true) × P y) xs) → Any (λ y. (q y ≡ true) × P y) (x ∷ xs)
@@ -69,7 +69,7 @@ sized_by : (forms : List Form) (whole layout : List Extent) (staged : Bool) (r :
 sized_by forms whole layout staged r None h = h
 sized_by forms whole layout staged r (Some form) h = h.sized
 
-not_false : (b : Bool) → not b ≡ true → b ≡ false
+pub not_false : (b : Bool) → not b ≡ true → b ≡ false
 not_false true e = absurd (let w : false ≡ true = e in cc)
 not_false false e = refl
 
@@ -87,10 +87,10 @@ seen_by run v env locals memory f z S h =
     S.regions b
 
 -- ---- fresh symbols
-all_rest : {X : Type 0} (P : X → Type 0) (x : X) (xs : List X) → All P (x ∷ xs) → All P xs
+pub all_rest : {X : Type 0} (P : X → Type 0) (x : X) (xs : List X) → All P (x ∷ xs) → All P xs
 all_rest P x xs h = λ k d l. h (suc k) d (omega (arith, l))
 
-all_first : {X : Type 0} (P : X → Type 0) (x : X) (xs : List X) → All P (x ∷ xs) → P x
+pub all_first : {X : Type 0} (P : X → Type 0) (x : X) (xs : List X) → All P (x ∷ xs) → P x
 all_first P x xs h = h 0 x (omega arith)
 
 one_by : (P : ℕ → Type 0) (s t : ℕ) (ts : List ℕ) (b : Bool) → (t == s) ≡ b → P t → (is_one_of ts s ≡ true → P s) → (b || is_one_of ts s) ≡ true → P s

@@ -46,10 +46,10 @@ parts-same : (v w : ℕ → ℤ) (ps : List (ℕ × ℤ)) → ((s : ℕ) → v s
 parts-same v w [] h = refl
 parts-same v w (p ∷ ps) h = let a = h p.0 in let b = parts-same v w ps h in cc
 
-value-same : (v w : ℕ → ℤ) (t : Linear) → ((s : ℕ) → v s ≡ w s) → value v t ≡ value w t
+pub value-same : (v w : ℕ → ℤ) (t : Linear) → ((s : ℕ) → v s ≡ w s) → value v t ≡ value w t
 value-same v w t h = let a = parts-same v w t.parts h in cc
 
-value_at : (v : ℕ → ℤ) (ts : List Linear) (s : ℕ) → value v (form_at ts s) ≡ values_of (all_values v ts) s
+pub value_at : (v : ℕ → ℤ) (ts : List Linear) (s : ℕ) → value v (form_at ts s) ≡ values_of (all_values v ts) s
 value_at v [] s = omega (arith, ints)
 value_at v (t ∷ ts) zero = refl
 value_at v (t ∷ ts) (suc s) = value_at v ts s

@@ -5,7 +5,6 @@ use Rattle.std.proofs.lemmas.Int.{ints}
 use Rattle.std.proofs.lemmas.Bool.Decides.{nat_tests}
 use Rattle.cx_base.specs.Number.{HasSize, half_of, InRange}
 use Rattle.cx_base.proofs.Sizes.{half_positive}
-use Rattle.cx_base.specs.declared.memory.Region.{Region}
 use Rattle.cx_term.specs.Forms.{Linear, value}
 use Rattle.cx_term.specs.Replaced.{put_all, values_of}
 use Rattle.cx_term.proofs.AllReplaced.{value-put_all}
@@ -14,16 +13,15 @@ use Rattle.cx_cells.specs.Values.{all_values}
 use Rattle.cx_cells.specs.Layouts.{Extent, Points, layout_of}
 use Rattle.cx_cells.specs.declared.cell.CellKind.{CellKind}
 use Rattle.cx_cells.specs.declared.cell.CellKind.TheVariants.{Any, Val, Ptr}
-use Rattle.cx_state.specs.Run.{Run}
-use Rattle.cx_state.specs.Stands.{StandsAtAccess, visible}
+use Rattle.cx_state.specs.Stands.{visible}
 use Rattle.cx_state.specs.declared.state.Fact.{Fact}
 use Rattle.cx_state.specs.declared.state.Env.{Env}
 use Rattle.cx_state.specs.declared.state.Pointed.{Pointed}
 use Rattle.cx_query.specs.Shown.{at_least, at_most, shown_equal, shown_zero}
-use Rattle.cx_query.specs.Pointing.{point_of, PointsTruly}
-use Rattle.cx_query.specs.Kinds.{is_size, least_of, greatest_of, in_type, instance, instance_values, args_equal, pointer_meets, fact_meets, point_meets, kind_shown, HoldsKind}
+use Rattle.cx_query.specs.Pointing.{point_of, not_fresh}
+use Rattle.cx_query.specs.Kinds.{is_size, least_of, greatest_of, in_type, instance, instance_values, args_equal, pointer_meets, fact_meets, point_meets, kind_shown, kind_shown_but, NumberHolds, HoldsKind}
 use Rattle.cx_query.proofs.Comes.{Meets, Comes, fit-comes, some-comes, at_least-sound, at_most-sound, equal-sound, zero-sound}
-use Rattle.cx_query.proofs.PointLaws.{stands-meets, points_truly}
+use Rattle.cx_query.proofs.PointLaws.{Knows, stands-knows, PointsWell, points_well}
 
 ends_by : (size : ℕ) (signed : Bool) (z : ℤ) → least_of size signed ≤ℤ z → z ≤ℤ greatest_of size signed → InRange size signed z
 ends_by size true z l h = (l, omega (arith, ints, h))
@@ -51,7 +49,7 @@ args-sound env v values (k ∷ ks) (b ∷ bs) m e =
     let y = args-sound env v values ks bs m (and_right p (args_equal env values ks bs) e) in
     cc
 
-name_true : (a b : ℕ) → (a == b) ≡ true → a ≡ b
+pub name_true : (a b : ℕ) → (a == b) ≡ true → a ≡ b
 name_true a b e = grind (arith, nat_tests)
 
 null_kept : (m n : Bool) → n || not m ≡ true → m ≡ true → n ≡ true
@@ -77,31 +75,36 @@ meets-sound env v values name args off null p f layout z m e h =
     (null_kept p.null null (and_right c d s))
     h
 
-point-sound : (env : Env) (values : Option (List Linear)) (name : ℕ) (args : List Linear) (off : Linear) (null : Bool) (t : Linear) (o : Option Pointed) (run : Run) (v : ℕ → ℤ) (locals : List (Option ℤ)) (memory : List Region) → StandsAtAccess run v env locals memory → PointsTruly env t o → point_meets env values (Ptr name args off null) o ≡ true → Points (visible v env (layout_of memory)) name (all_values (instance_values values v) args) (value (instance_values values v) off) null (value v t)
-point-sound env values name args off null t None run v locals memory S k e = absurd (let w : false ≡ true = e in cc)
-point-sound env values name args off null t (Some p) run v locals memory S k e =
+point-sound : (own : Option ℕ) (env : Env) (values : Option (List Linear)) (name : ℕ) (args : List Linear) (off : Linear) (null : Bool) (t : Linear) (o : Option Pointed) (v : ℕ → ℤ) (layout : List Extent) → Meets env v → Knows (not_fresh own env) v layout → PointsWell (not_fresh own env) t o → point_meets env values (Ptr name args off null) o ≡ true → Points layout name (all_values (instance_values values v) args) (value (instance_values values v) off) null (value v t)
+point-sound own env values name args off null t None v layout m K k e = absurd (let w : false ≡ true = e in cc)
+point-sound own env values name args off null t (Some p) v layout m K k e =
     let g : fact_meets env values (Ptr name args off null) p (Some k.0) ≡ true = subst (λ (o : Option Fact). fact_meets env values (Ptr name args off null) p o ≡ true) k.1 e in
-    meets-sound env v values name args off null p k.0 (visible v env (layout_of memory)) (value v t) (stands-meets run v env locals memory S) g (k.2 run v locals memory S)
+    meets-sound env v values name args off null p k.0 layout (value v t) m g (k.2 v layout K)
 
-pub holds_kind : (env : Env) (values : Option (List Linear)) (kind : CellKind) (size : ℕ) (t : Linear) → kind_shown env values kind size t ≡ true → HoldsKind env values kind size t
-holds_kind env values Any size t e run v locals memory S = tt
-holds_kind env values (Val signed u) size t e run v locals memory S =
-    let m = stands-meets run v env locals memory S in
+-- what is shown of a kind, where a symbol may count as not fresh, is true in each layout in which the state is then
+pub kind-holds-but : (own : Option ℕ) (env : Env) (values : Option (List Linear)) (kind : CellKind) (size : ℕ) (t : Linear) → kind_shown_but own env values kind size t ≡ true → (v : ℕ → ℤ) (layout : List Extent) → Meets env v → Knows (not_fresh own env) v layout → NumberHolds (instance_values values v) layout kind size (value v t)
+kind-holds-but own env values Any size t e v layout m K = tt
+kind-holds-but own env values (Val signed u) size t e v layout m K =
     let a = shown_equal env (Some t) (instance values u) in
     let b = in_type env size signed t in
     (in_type-sound env v size signed t m (and_right a b e), equal-sound env v (Some t) (instance values u) (value v t) (value (instance_values values v) u) m (some-comes v t) (instance-comes v values u) (and_left a b e))
-holds_kind env values (Ptr name args off null) size t e run v locals memory S =
-    let m = stands-meets run v env locals memory S in
+kind-holds-but own env values (Ptr name args off null) size t e v layout m K =
     let a = in_type env 8 false t in
     let b = null && shown_zero env t in
-    let c = point_meets env values (Ptr name args off null) (point_of env t) in
-    let P = Points (visible v env (layout_of memory)) name (all_values (instance_values values v) args) (value (instance_values values v) off) null (value v t) in (
+    let p = point_of (not_fresh own env) t in
+    let c = point_meets env values (Ptr name args off null) p in
+    let P = Points layout name (all_values (instance_values values v) args) (value (instance_values values v) off) null (value v t) in (
       in_type-sound env v 8 false t m (and_left a (b || c) e),
       or_cases b c P
           (λ h. inl (and_left null (shown_zero env t) h, zero-sound env v t m (and_right null (shown_zero env t) h)))
-          (λ h. point-sound env values name args off null t (point_of env t) run v locals memory S (points_truly env t) h)
+          (λ h. point-sound own env values name args off null t p v layout m K (points_well (not_fresh own env) t) h)
           (and_right a (b || c) e),
     )
+
+pub holds_kind : (env : Env) (values : Option (List Linear)) (kind : CellKind) (size : ℕ) (t : Linear) → kind_shown env values kind size t ≡ true → HoldsKind env values kind size t
+holds_kind env values kind size t e run v locals memory S =
+    let K = stands-knows run v env locals memory S in
+    kind-holds-but None env values kind size t e v (visible v env (layout_of memory)) K.meets K
 
 -- ---- the code's ways
 pub args-differ : (env : Env) (values : Option (List Linear)) (ks bs : List Linear) → length ks ≢ length bs → false ≡ args_equal env values ks bs

@@ -1,4 +1,5 @@
 pub mod Comes
 pub mod RangeLaws
+pub mod Fresh
 pub mod PointLaws
 pub mod KindLaws

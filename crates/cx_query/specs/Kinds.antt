@@ -15,7 +15,7 @@ use Rattle.cx_state.specs.declared.state.Fact.{Fact}
 use Rattle.cx_state.specs.declared.state.Env.{Env}
 use Rattle.cx_state.specs.declared.state.Pointed.{Pointed}
 use Rattle.cx_query.specs.Shown.{at_least, at_most, shown_equal, shown_zero}
-use Rattle.cx_query.specs.Pointing.{point_of}
+use Rattle.cx_query.specs.Pointing.{point_of, not_fresh}
 
 -- ---- integer types
 
@@ -71,12 +71,20 @@ abbrev pub point_meets : Env → Option (List Linear) → CellKind → Option Po
 point_meets env values kind None = false
 point_meets env values kind (Some p) = fact_meets env values kind p (fact_at env.facts p.sym)
 
+-- the form, which points to p, is shown to be of the kind, as a number of so many bytes
+abbrev pub kind_with : Env → Option (List Linear) → CellKind → ℕ → Linear → Option Pointed → Bool
+kind_with env values Any size t p = true
+kind_with env values (Val signed u) size t p = shown_equal env (Some t) (instance values u) && in_type env size signed t
+kind_with env values (Ptr name args off null) size t p =
+    in_type env 8 false t && ((null && shown_zero env t) || point_meets env values (Ptr name args off null) p)
+
 -- the form is shown to be of the kind, as a number of so many bytes
 abbrev pub kind_shown : Env → Option (List Linear) → CellKind → ℕ → Linear → Bool
-kind_shown env values Any size t = true
-kind_shown env values (Val signed u) size t = shown_equal env (Some t) (instance values u) && in_type env size signed t
-kind_shown env values (Ptr name args off null) size t =
-    in_type env 8 false t && ((null && shown_zero env t) || point_meets env values (Ptr name args off null) (point_of env t))
+kind_shown env values kind size t = kind_with env values kind size t (point_of env t)
+
+-- the same where a symbol counts as not fresh
+abbrev pub kind_shown_but : Option ℕ → Env → Option (List Linear) → CellKind → ℕ → Linear → Bool
+kind_shown_but own env values kind size t = kind_with env values kind size t (point_of (not_fresh own env) t)
 
 -- ---- what is shown is true
 

@@ -1,5 +1,5 @@
 -- The base of a form, and the region that it points into.
-use Rattle.std.specs.Prelude.{◌≡◌, ℕ, ℤ, pos, Bool, false, not, ◌&&◌, if◌then◌else◌, List, [], ◌∷◌, Option, Some, None, is_some, IfSome}
+use Rattle.std.specs.Prelude.{◌≡◌, ℕ, ℤ, pos, Bool, false, not, ◌&&◌, ◌==◌, if◌then◌else◌, List, [], ◌∷◌, filter, Option, Some, None, is_some, IfSome}
 use Rattle.cx_base.specs.declared.memory.Region.{Region}
 use Rattle.cx_term.specs.Forms.{Linear, value, symbol_of}
 use Rattle.cx_term.specs.Sums.{is_zero}
@@ -59,6 +59,19 @@ point_at env t (Some s) = if is_one_of env.fresh s then None else point_by env t
 -- where the form points to
 abbrev pub point_of : Env → Linear → Option Pointed
 point_of env t = point_at env t (base_of env t)
+
+-- ---- a symbol that counts as not fresh
+
+-- the fresh symbols without this one, where there is one
+abbrev pub fresh_but : Option ℕ → List ℕ → List ℕ
+fresh_but None symbols = symbols
+fresh_but (Some s) symbols = filter (λ t. not (t == s)) symbols
+
+-- the state in which this symbol, where there is one, is not fresh
+abbrev pub not_fresh : Option ℕ → Env → Env
+not_fresh own env = record env { fresh = fresh_but own env.fresh }
+
+-- ---- what is answered is true
 
 -- the form has this value wherever the state stands: the address past the base of such a region of the layout, or 0 where null
 abbrev pub PointsAt : Env → Linear → Pointed → Fact → Type 0

@@ -1,11 +1,11 @@
 //! Whether a form is shown to be of a kind.
 
 ghost use Rattle.std.specs.Prelude.{◌≡◌, ◌&&◌, IsTrue, Some, None, true};
-ghost use Rattle.cx_query.specs.Kinds.{is_size, least_of, greatest_of, in_type, values_given, instance, args_equal, pointer_meets, point_meets, kind_shown, HoldsKind};
+ghost use Rattle.cx_query.specs.Kinds.{is_size, least_of, greatest_of, in_type, values_given, instance, args_equal, pointer_meets, point_meets, kind_shown, kind_shown_but, HoldsKind};
 ghost use Rattle.cx_query.specs.Shown.{at_least, at_most, shown_equal};
 
 use crate::forms::{at_least, at_most, shown_equal, shown_zero};
-use crate::pointing::point_of;
+use crate::pointing::point_but;
 use cx_base::List;
 use cx_cells::{CellKind, cell_range};
 use cx_state::{Env, Fact, Pointed};
@@ -34,7 +34,8 @@ fn in_ends(env: &Env, size: u32, signed: bool, t: &Term) -> bool
     at_least(env, t, ends.0) && at_most(env, t, ends.1)
 }
 
-fn in_type(env: &Env, size: u32, signed: bool, t: &Term) -> bool
+/// Whether the form is shown to lie in the range of the integer type of this size, in bytes, and sign.
+pub fn in_type(env: &Env, size: u32, signed: bool, t: &Term) -> bool
     ensures { result ≡ in_type env.now size signed t.now }
 {
     is_size(size) && in_ends(env, size, signed, t)
@@ -120,8 +121,16 @@ fn value_shown(env: &Env, given: bool, values: &[Term], u: &Term, t: &Term) -> b
     shown_equal(env, &Some(t.copy()), &instance(given, values, u))
 }
 
-fn kind_shown(env: &Env, given: bool, values: &[Term], kind: &CellKind, size: u32, t: &Term) -> bool
-    ensures { result ≡ kind_shown env.now (values_given given values.now) kind.now size t.now }
+fn kind_by(
+    own: Option<u32>,
+    env: &Env,
+    given: bool,
+    values: &[Term],
+    kind: &CellKind,
+    size: u32,
+    t: &Term,
+) -> bool
+    ensures { result ≡ kind_shown_but own env.now (values_given given values.now) kind.now size t.now }
 {
     match kind {
         CellKind::Any => true,
@@ -136,7 +145,7 @@ fn kind_shown(env: &Env, given: bool, values: &[Term], kind: &CellKind, size: u3
         } => {
             in_type(env, 8, false, t)
                 && ((*null && shown_zero(env, t))
-                    || point_meets(env, given, values, kind, point_of(env, t)))
+                    || point_meets(env, given, values, kind, point_but(own, env, t)))
         }
     }
 }
@@ -149,7 +158,7 @@ pub fn shown(env: &Env, kind: &CellKind, size: u32, value: &Term) -> bool
     ensures exact { result ≡ kind_shown env.now None kind.now size value.now }
     ensures sound { IsTrue result → HoldsKind env.now None kind.now size value.now }
 {
-    kind_shown(env, false, &[], kind, size, value)
+    kind_by(None, env, false, &[], kind, size, value)
 }
 
 /// Whether `value` is shown to be of the kind in which each symbol `k` is replaced by `values[k]`, all at
@@ -158,5 +167,19 @@ pub fn shown_with(env: &Env, kind: &CellKind, values: &[Term], size: u32, value:
     ensures exact { result ≡ kind_shown env.now (Some values.now) kind.now size value.now }
     ensures sound { IsTrue result → HoldsKind env.now (Some values.now) kind.now size value.now }
 {
-    kind_shown(env, true, values, kind, size, value)
+    kind_by(None, env, true, values, kind, size, value)
+}
+
+/// As `shown_with`, where the symbol `own`, if there is one, counts as not fresh.
+pub fn shown_with_but(
+    own: Option<u32>,
+    env: &Env,
+    kind: &CellKind,
+    values: &[Term],
+    size: u32,
+    value: &Term,
+) -> bool
+    ensures { result ≡ kind_shown_but own env.now (Some values.now) kind.now size value.now }
+{
+    kind_by(own, env, true, values, kind, size, value)
 }

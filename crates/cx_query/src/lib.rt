@@ -9,5 +9,5 @@ mod pointing;
 
 pub use bounding::range_of;
 pub use forms::{at_least, at_most, difference, number, shown_equal, shown_in, shown_zero, sum};
-pub use kinds::{shown, shown_with};
-pub use pointing::{base, point};
+pub use kinds::{in_type, shown, shown_with, shown_with_but};
+pub use pointing::{base, point, point_but};

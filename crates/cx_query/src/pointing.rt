@@ -3,7 +3,8 @@
 ghost use Rattle.std.specs.Prelude.{◌≡◌, Some};
 ghost use Rattle.cx_term.specs.Forms.{symbol_of};
 ghost use Rattle.cx_entail.specs.Shows.{shown_nonzero};
-ghost use Rattle.cx_query.specs.Pointing.{is_base_part, base_of, null_of, is_nothing, pointed, point_with, point_by, point_at, point_of, PointsTruly};
+ghost use Rattle.cx_state.specs.Known.{is_one_of};
+ghost use Rattle.cx_query.specs.Pointing.{is_base_part, base_of, null_of, is_nothing, pointed, point_with, point_by, point_at, point_of, fresh_but, not_fresh, PointsTruly};
 
 use crate::forms::{difference, sum};
 use cx_entail::{Range, shows_nonzero};
@@ -94,12 +95,22 @@ fn point_by(env: &Env, t: &Term, s: u32) -> Option<Pointed>
     }
 }
 
-fn point_at(env: &Env, t: &Term, s: Option<u32>) -> Option<Pointed>
-    ensures { result ≡ point_at env.now t.now s }
+/// Whether the symbol is fresh, and another than the one that counts as not fresh.
+fn is_fresh_but(own: Option<u32>, env: &Env, s: u32) -> bool
+    ensures { result ≡ is_one_of (fresh_but own env.now.fresh) s }
+{
+    match own {
+        Some(o) => env.is_fresh(s) && s != o,
+        None => env.is_fresh(s),
+    }
+}
+
+fn point_at(own: Option<u32>, env: &Env, t: &Term, s: Option<u32>) -> Option<Pointed>
+    ensures { result ≡ point_at (not_fresh own env.now) t.now s }
 {
     match s {
         Some(s) => {
-            if env.is_fresh(s) {
+            if is_fresh_but(own, env, s) {
                 return None;
             }
             point_by(env, t, s)
@@ -108,10 +119,11 @@ fn point_at(env: &Env, t: &Term, s: Option<u32>) -> Option<Pointed>
     }
 }
 
-pub(crate) fn point_of(env: &Env, t: &Term) -> Option<Pointed>
-    ensures { result ≡ point_of env.now t.now }
+/// As `point`, where the symbol `own`, if there is one, counts as not fresh.
+pub fn point_but(own: Option<u32>, env: &Env, t: &Term) -> Option<Pointed>
+    ensures { result ≡ point_of (not_fresh own env.now) t.now }
 {
-    point_at(env, t, base(env, t))
+    point_at(own, env, t, base(env, t))
 }
 
 /// Where the form points to: it is its base and a rest, and lies by that rest past what the base's fact
@@ -121,5 +133,5 @@ pub fn point(env: &Env, t: &Term) -> Option<Pointed>
     ensures exact { result ≡ point_of env.now t.now }
     ensures sound { PointsTruly env.now t.now result }
 {
-    point_of(env, t)
+    point_but(None, env, t)
 }
