@@ -1,0 +1,2 @@
+pub mod Symbols
+mod Examples
