@@ -1,0 +1,4 @@
+pub mod Turns
+pub mod Told
+pub mod There
+pub mod Laws
