@@ -16,9 +16,6 @@ pub enum Amounts<'a> {
     OneLess(&'a Sums, &'a Sums),
 }
 
-// Greater than each limit.
-const BOUND: u128 = 1 << 100;
-
 // None only where the difference is past all limits.
 fn difference(a: i128, b: i128) -> Option<i128>
     ensures { MatchOption result (spec.is_small (2 ^ 100) (a -ℤ b) ≡ false) (λ d. d ≡ a -ℤ b) }
