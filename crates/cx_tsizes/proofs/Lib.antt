@@ -1,0 +1,4 @@
+pub mod Elements
+pub mod Division
+pub mod Over
+pub mod Forms

@@ -1,0 +1,10 @@
+use Rattle.std.proofs.Common.{◌≡◌, map, drop}
+use Rattle.cx_tsyn.specs.Items.{type_item_tree}
+use Rattle.cx_tscope.specs.Faults.{first}
+use Rattle.cx_tmeasure.specs.Views.{known_of}
+use Rattle.cx_tsizes.specs.BadSizes.{bad_in_items}
+use Rattle.cx_tsizes.specs.Views.{regions_as}
+use Rattle.cx_tsizes.proofs.items.bad_in_items.Given as goal
+
+abbrev pub invariant-loop-item : goal.invariant-loop-item
+invariant-loop-item l = first (bad_in_items (known_of l.known) (regions_as l.regions) (map type_item_tree (drop l.item-index l.items))) ≡ first (bad_in_items (known_of l.known) (regions_as l.regions) (map type_item_tree l.items))
