@@ -1,0 +1,4 @@
+pub mod Steps
+pub mod Folds
+pub mod Turns
+pub mod Joins

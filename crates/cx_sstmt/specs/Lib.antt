@@ -1,0 +1,4 @@
+pub mod Labels
+pub mod Stmts
+pub mod Around
+pub mod Joined
