@@ -1,0 +1,8 @@
+//! The typing of C functions: `resolve` gives the typed tree of a function, or the first rule on
+//! types that it breaks, with its place.
+#![tactic(auto)]
+
+mod function;
+
+pub use cx_snode::SemaFault;
+pub use function::resolve;
