@@ -5,6 +5,6 @@ mod putting;
 mod showing;
 mod spots;
 
-pub use putting::{drop_spot, put_cell};
+pub use putting::{drop_spot, put_cell, with_cell};
 pub use showing::{apart, regions_apart};
 pub use spots::Spot;

@@ -58,7 +58,9 @@ fn dropped(env: Env, a: &Spot) -> Result<Env, NoMemory>
     Ok(env)
 }
 
-fn with_cell(env: Env, c: Cell) -> Result<Env, EnvFault>
+/// The state in which the cell is known as well, and stands last. `Limit` exactly where the cells would be
+/// more than 256.
+pub fn with_cell(env: Env, c: Cell) -> Result<Env, EnvFault>
     ensures { Agrees result (with_cell env c) }
 {
     if env.cells.len() >= CELLS {

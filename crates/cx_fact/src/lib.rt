@@ -4,4 +4,4 @@
 
 mod telling;
 
-pub use telling::{settle, tell};
+pub use telling::{settle, tell, with_fact};

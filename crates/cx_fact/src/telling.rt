@@ -174,7 +174,8 @@ fn not_null(f: Fact) -> Fact
     }
 }
 
-fn with_fact(env: Env, s: u32, f: &Fact) -> Result<Env, NoMemory>
+/// The state in which the symbol `s` has the fact. A symbol past the end of the list has none.
+pub fn with_fact(env: Env, s: u32, f: &Fact) -> Result<Env, NoMemory>
     ensures { IfOk result (λ next. next ≡ with_fact env s f.now) }
 {
     let mut env = env;
