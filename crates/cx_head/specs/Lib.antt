@@ -1,0 +1,3 @@
+pub mod Branches
+pub mod Heads
+pub mod Staged
