@@ -107,7 +107,7 @@ fresh_differ run v env locals memory s t b f g false true S e d x y p q h k l =
 fresh_differ run v env locals memory s t b f g false false S e d x y p q h k l = let w : false ≡ true = h in cc
 
 -- ---- regions
-regions_differ : (run : Run) (v : ℕ → ℤ) (env : Env) (locals : List (Option ℤ)) (memory : List Region) (a b : Spot) (i : ℕ) (x : LiesIn v env memory a i) (y : LiesIn v env memory b i) → StandsAtAccess run v env locals memory → regions_apart env a.sym x.f b.sym y.f ≡ true → ⊥
+pub regions_differ : (run : Run) (v : ℕ → ℤ) (env : Env) (locals : List (Option ℤ)) (memory : List Region) (a b : Spot) (i : ℕ) (x : LiesIn v env memory a i) (y : LiesIn v env memory b i) → StandsAtAccess run v env locals memory → regions_apart env a.sym x.f b.sym y.f ≡ true → ⊥
 regions_differ run v env locals memory a b i x y S e =
     let same : x.r ≡ y.r = let w : Some x.r ≡ Some y.r = sym x.there ∙ y.there in cc in
     let k : pos x.r.base ≡ v a.sym -ℤ value v x.f.off = x.is.based in

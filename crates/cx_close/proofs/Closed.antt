@@ -140,7 +140,7 @@ elements-any form args layout bytes (Some tail) e = λ i l.
     record { binders = []; count = no_binders tail.part.binders (and_left a (b && c) e); conds = no_items _ tail.part.conds (and_left b c r); cells = all_any _ layout bytes _ tail.part.cells (and_right b c r) }
 
 -- ---- the region
-some_of : (P : Form → Type 0) (o : Option Form) (form : Form) → o ≡ Some form → IsSomeAnd o P → P form
+pub some_of : (P : Form → Type 0) (o : Option Form) (form : Form) → o ≡ Some form → IsSomeAnd o P → P form
 some_of P o form e h = rw e at h
 
 -- the region has its type's number of arguments, and their size
@@ -152,12 +152,12 @@ inner_some : (o : Option (Option Fact)) (f : Fact) → inner o ≡ Some f → o 
 inner_some None f e = absurd (cc)
 inner_some (Some x) f e = ap Some e
 
-given_by : (forms : List Form) (env : Env) (s : ℕ) (f : Fact) (form : Form) → IsValid forms env → fact_at env.facts s ≡ Some f → slice_get forms f.name ≡ Some form → form.params ≡ length f.args
+pub given_by : (forms : List Form) (env : Env) (s : ℕ) (f : Fact) (form : Form) → IsValid forms env → fact_at env.facts s ≡ Some f → slice_get forms f.name ≡ Some form → form.params ≡ length f.args
 given_by forms env s f form V e q =
     let h : HasParams forms f.name (length f.args) = all_get (HasType forms) env.facts s (Some f) V.types (inner_some (slice_get env.facts s) f e) in
     some_of (λ g. g.params ≡ length f.args) (slice_get forms f.name) form q h
 
-of_here : (run : Run) (v : ℕ → ℤ) (env : Env) (locals : List (Option ℤ)) (memory : List Region) (s i : ℕ) → StandsAtAccess run v env locals memory → (x : IsRegionOf v env.facts memory s i) → Any (IsOf run.forms v x.f (v s)) memory → IsOf run.forms v x.f (v s) x.r
+pub of_here : (run : Run) (v : ℕ → ℤ) (env : Env) (locals : List (Option ℤ)) (memory : List Region) (s i : ℕ) → StandsAtAccess run v env locals memory → (x : IsRegionOf v env.facts memory s i) → Any (IsOf run.forms v x.f (v s)) memory → IsOf run.forms v x.f (v s) x.r
 of_here run v env locals memory s i S x a =
     let same : a.1.base ≡ x.r.base = omega (arith, ints, a.4.is.based, x.is.based) in
     equal_or_not a.0 i (IsOf run.forms v x.f (v s) x.r)

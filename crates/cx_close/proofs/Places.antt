@@ -81,7 +81,7 @@ found_by run v env locals memory s i size off at None d S x e k q = absurd (cc)
 found_by run v env locals memory s i size off at (Some j) d S x e k q =
     reads_at run v env locals memory s i size off at d S x e (is_at s size at d (found (is_cell_at s at size) env.cells j d k q)) (all_get (CellStands v env.facts memory) env.cells j d S.cells q)
 
-placed_by : (run : Run) (v : ℕ → ℤ) (env : Env) (locals : List (Option ℤ)) (memory : List Region) (s i size off : ℕ) (o : Option Linear) (d : Cell) → StandsAtAccess run v env locals memory → (x : IsRegionOf v env.facts memory s i) → Comes v o (pos off -ℤ value v x.f.off) → known_cell env.cells s o size ≡ Some d → number_at x.r.bytes off size d.signed ≡ value v d.value
+pub placed_by : (run : Run) (v : ℕ → ℤ) (env : Env) (locals : List (Option ℤ)) (memory : List Region) (s i size off : ℕ) (o : Option Linear) (d : Cell) → StandsAtAccess run v env locals memory → (x : IsRegionOf v env.facts memory s i) → Comes v o (pos off -ℤ value v x.f.off) → known_cell env.cells s o size ≡ Some d → number_at x.r.bytes off size d.signed ≡ value v d.value
 placed_by run v env locals memory s i size off None d S x c q = absurd (cc)
 placed_by run v env locals memory s i size off (Some at) d S x c q = found_by run v env locals memory s i size off at (known_in env.cells s at size) d S x (c at refl) refl q
 

@@ -54,7 +54,7 @@ fact_by forms n env s f false b m l h =
     then-forms n mid (learnt_if mid (below_end s f)) (λ d. told_size (slice_get forms f.name) f d) (learnt_if-forms n mid (below_end s f) k (end-below n s f l h))
     (λ last j. size-forms n (slice_get forms f.name) f last j h))
 
-told_fact-forms : (forms : List Form) (n : ℕ) (env : Env) (s : ℕ) (f : Fact) → Base n env → s < n → FactBelow n f → Forms n env (told_fact forms env s f)
+pub told_fact-forms : (forms : List Form) (n : ℕ) (env : Env) (s : ℕ) (f : Fact) → Base n env → s < n → FactBelow n f → Forms n env (told_fact forms env s f)
 told_fact-forms forms n env s f m l h = fact_by forms n env s f f.null (is_count f.off) m l h
 
 -- ---- the fact of a symbol

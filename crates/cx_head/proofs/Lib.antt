@@ -1,2 +1,2 @@
 mod Zeros
-mod Few
+pub mod Few

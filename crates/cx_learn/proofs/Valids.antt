@@ -119,7 +119,7 @@ ne_by n env t false true c m h = learnt_if-forms n env (less_one t) m (less_one-
 ne_by n env t false false true m h = learnt_if-forms n env (minus_less_one t) m (minus_less_one-below n t h)
 ne_by n env t false false false m h = excluding-forms n env t (excluded t) m h
 
-learnt-forms : (n : ℕ) (env : Env) (c : Ineq) → Base n env → CondBelow n c → Forms n env (learnt env c)
+pub learnt-forms : (n : ℕ) (env : Env) (c : Ineq) → Base n env → CondBelow n c → Forms n env (learnt env c)
 learnt-forms n env (Ge t) m h = learnt_ge-forms n env t m h
 learnt-forms n env (Ne t) m h = ne_by n env t (nonzero_in env t) (shown_in env (Some t)) (shown_in env (minus t)) m h
 
