@@ -1,4 +1,4 @@
-ghost use Rattle.std.specs.Prelude.{◌≡◌, [], ◌==◌, not, position, IfOk, OnOk};
+ghost use Rattle.std.specs.Prelude.{◌≡◌, [], ◌==◌, not, position, IfOk, OnOk, OnErr};
 ghost use Rattle.std.specs.List.{list_any};
 ghost use Rattle.cx_cindex.specs.Sets.{same_field, with_number, with_field};
 
@@ -45,10 +45,12 @@ impl NumberSet {
         self.numbers.get_index_of(&n)
     }
 
-    /// Adds a number: true; false and unchanged exactly where it is among them.
+    /// Adds a number: true; false and unchanged exactly where it is among them. After `NoMemory` nothing
+    /// has changed.
     pub fn add(&mut self, n: u32) -> Result<bool, NoMemory>
         ensures value { IfOk result (λ new. new ≡ not (list_any (λ m. n == m) self.old)) }
         ensures new { OnOk result (self.new ≡ with_number self.old n) }
+        ensures err { OnErr result (self.new ≡ self.old) }
     {
         let new = self.numbers.insert(n)?;
         Ok(new)
@@ -95,9 +97,10 @@ impl FieldSet {
         self.fields.contains(&field)
     }
 
-    /// Adds a member where it is not among them.
+    /// Adds a member where it is not among them. After `NoMemory` nothing has changed.
     pub fn add(&mut self, field: FieldName) -> Result<(), NoMemory>
-        ensures { OnOk result (self.new ≡ with_field self.old field) }
+        ensures new { OnOk result (self.new ≡ with_field self.old field) }
+        ensures err { OnErr result (self.new ≡ self.old) }
     {
         let _new = self.fields.insert(field)?;
         Ok(())

@@ -1,10 +1,11 @@
 -- Linear forms, and what they come to.
-use Rattle.std.proofs.Common.{◌≡◌, refl, ℕ, List, [], ◌∷◌, Bool, true, false, Some, None, codes}
+use Rattle.std.proofs.Common.{◌≡◌, refl, arith, inl, inr, ◌^◌, ℕ, List, [], ◌∷◌, Bool, true, false, Some, None, codes}
 use Rattle.std.specs.Prelude.{pos, negsuc}
 use Rattle.cx_base.specs.declared.span.Span.{Span}
 use Rattle.cx_tsyn.specs.Words.{WordTree}
 use Rattle.cx_tsyn.specs.Lins.{LinPartTree, number, times, symbol, LinTree}
-use Rattle.cx_tnumber.specs.Numbers.{number_of, has_symbol, is_whole}
+use Rattle.cx_tnumber.specs.Limits.{IsNoI128, Overflows}
+use Rattle.cx_tnumber.specs.Numbers.{number_of, has_symbol, is_whole, parts_of}
 
 abbrev word : Span → List ℕ → WordTree
 word s text = record { span = s; text = text }
@@ -34,3 +35,10 @@ twice s = refl
 -- 0 * n
 none : (s : Span) → has_symbol (codes "n") (form s false (times (pos 0) (word s (codes "n"))) []) ≡ false
 none s = refl
+
+-- 2^126 * n + 2^126 * n
+too_much : IsNoI128 (pos (2 ^ 127))
+too_much f = omega arith
+
+passed : (s : Span) → Overflows (pos 0) (parts_of (form s false (times (pos (2 ^ 126)) (word s (codes "n"))) ((false, times (pos (2 ^ 126)) (word s (codes "n"))) ∷ []))) (Some (codes "n"))
+passed s = inr (inl too_much)

@@ -1,2 +1,3 @@
 pub mod Symbols
 mod Examples
+pub mod Limits

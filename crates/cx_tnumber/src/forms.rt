@@ -1,10 +1,11 @@
-ghost use Rattle.std.specs.Prelude.{◌≡◌, ◌+ℤ◌, Some, map, IfOk};
+ghost use Rattle.std.specs.Prelude.{◌≡◌, ◌+ℤ◌, pos, Some, map, IfOk, OnErr};
 ghost use Rattle.cx_tsyn.specs.Lins.{lin_part_tree, lin_tree};
 ghost use Rattle.cx_tnumber.specs.Numbers as spec;
+ghost use Rattle.cx_tnumber.specs.Limits.{IsNoI128, Overflows};
 ghost use Rattle.cx_tnumber.specs.Sums.{summed};
 
 use crate::sums::{Sums, sums_of};
-use crate::whole::{is_one, is_zero, signed, sum};
+use crate::whole::{added, is_one, is_zero};
 use cx_base::NoMemory;
 use cx_tsyn::{Lin, LinPart};
 use std::alloc::Global;
@@ -30,7 +31,8 @@ fn are_gone(sums: &Sums, rest: &[(bool, LinPart)]) -> bool
     true
 }
 
-/// The number that a linear form is; None exactly where a symbol is left in it.
+/// The number that a linear form is; None exactly where a symbol is left in it. `NoMemory` also where a
+/// sum is no `i128` on the way.
 #[tactic(auto, using(crate::proofs::Symbols::number_is))]
 pub fn number_of(alloc: Global, lin: &Lin) -> Result<Option<i128>, NoMemory>
     ensures { IfOk result (λ n. n ≡ spec.number_of (lin_tree lin.now)) }
@@ -79,7 +81,8 @@ fn whole_by(text: &[u8], sums: &Sums, lin: &Lin) -> bool
     no_other(text, sums, lin.rest.as_slice())
 }
 
-/// Whether a linear form is the symbol of this name and nothing else.
+/// Whether a linear form is the symbol of this name and nothing else. `NoMemory` also where a sum is no
+/// `i128` on the way.
 #[tactic(auto, using(crate::proofs::Symbols::whole_is))]
 pub fn is_whole(alloc: Global, text: &[u8], lin: &Lin) -> Result<bool, NoMemory>
     ensures { IfOk result (λ whole. whole ≡ spec.is_whole text.now (lin_tree lin.now)) }
@@ -88,44 +91,48 @@ pub fn is_whole(alloc: Global, text: &[u8], lin: &Lin) -> Result<bool, NoMemory>
     Ok(whole_by(text, &sums, lin))
 }
 
-// What a part adds to the sum of the factors of the symbol.
-fn share(text: &[u8], minus: bool, part: &LinPart) -> Result<i128, NoMemory>
-    ensures { IfOk result (λ z. z ≡ spec.share (spec.part_of minus (lin_part_tree part.now)) (Some text.now)) }
+// The sum of the factors of the symbol, once the part is added too.
+fn with_share(total: i128, text: &[u8], minus: bool, part: &LinPart) -> Result<i128, NoMemory>
+    ensures value { IfOk result (λ z. z ≡ total +ℤ spec.share (spec.part_of minus (lin_part_tree part.now)) (Some text.now)) }
+    ensures err { OnErr result (IsNoI128 (total +ℤ spec.share (spec.part_of minus (lin_part_tree part.now)) (Some text.now))) }
 {
     match part {
-        LinPart::Number(_) => Ok(0),
+        LinPart::Number(_) => Ok(total),
         LinPart::Times(z, word) => {
             if word.is(text) {
-                signed(minus, *z)
+                added(total, minus, *z)
             } else {
-                Ok(0)
+                Ok(total)
             }
         }
         LinPart::Symbol(word) => {
             if word.is(text) {
-                signed(minus, 1)
+                added(total, minus, 1)
             } else {
-                Ok(0)
+                Ok(total)
             }
         }
     }
 }
 
-fn rest_total(text: &[u8], rest: &[(bool, LinPart)]) -> Result<i128, NoMemory>
-    ensures { IfOk result (λ z. z ≡ spec.total (spec.rest_of (map (λ p. (p.0, lin_part_tree p.1)) rest.now)) (Some text.now)) }
+fn with_rest(first: i128, text: &[u8], rest: &[(bool, LinPart)]) -> Result<i128, NoMemory>
+    ensures value { IfOk result (λ z. z ≡ first +ℤ spec.total (spec.rest_of (map (λ p. (p.0, lin_part_tree p.1)) rest.now)) (Some text.now)) }
+    ensures err { OnErr result (Overflows first (spec.rest_of (map (λ p. (p.0, lin_part_tree p.1)) rest.now)) (Some text.now)) }
 {
-    let mut total = 0;
+    let mut total = first;
     for signed in rest {
-        total = sum(total, share(text, signed.0, &signed.1)?)?;
+        total = with_share(total, text, signed.0, &signed.1)?;
     }
     Ok(total)
 }
 
-/// Whether the symbol of this name is left in a linear form.
+/// Whether the symbol of this name is left in a linear form. `NoMemory` only where the sum of the
+/// factors of the symbol in the first so many of the parts is no `i128`.
 pub fn has_symbol(text: &[u8], lin: &Lin) -> Result<bool, NoMemory>
-    ensures { IfOk result (λ left. left ≡ spec.has_symbol text.now (lin_tree lin.now)) }
+    ensures value { IfOk result (λ left. left ≡ spec.has_symbol text.now (lin_tree lin.now)) }
+    ensures err { OnErr result (Overflows (pos 0) (spec.parts_of (lin_tree lin.now)) (Some text.now)) }
 {
-    let first = share(text, lin.negative, &lin.first)?;
-    let rest = rest_total(text, lin.rest.as_slice())?;
-    Ok(!is_zero(sum(first, rest)?))
+    let first = with_share(0, text, lin.negative, &lin.first)?;
+    let total = with_rest(first, text, lin.rest.as_slice())?;
+    Ok(!is_zero(total))
 }

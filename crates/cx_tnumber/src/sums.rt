@@ -95,7 +95,7 @@ impl Sums {
     }
 }
 
-/// The sums of a linear form.
+/// The sums of a linear form. `NoMemory` also where one of them is no `i128` on the way.
 pub fn sums_of(alloc: Global, lin: &Lin) -> Result<Sums, NoMemory>
     ensures { IfOk result (λ s. (u : Option (List ℕ)) → summed s u ≡ spec.sum_of (lin_tree lin.now) u) }
 {

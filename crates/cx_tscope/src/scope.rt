@@ -89,6 +89,7 @@ impl Scope {
     fn declare_one(&mut self, word: &Word, before: Option<Span>) -> Result<Option<Span>, NoMemory>
         ensures new { OnOk result (self.new ≡ numbered self.old (word_tree word.now).text) }
         ensures place { IfOk result (λ s. s ≡ first_of before (unless (not (is_known self.old (word_tree word.now))) (word_tree word.now))) }
+        ensures err { OnErr result (self.new ≡ self.old) }
     {
         let new = self.add(word.text.as_slice())?;
         if new || before.is_some() {
@@ -97,17 +98,33 @@ impl Scope {
         Ok(Some(word.span))
     }
 
-    /// Adds the names of words that are declared, one after the other, and gives the place of the
-    /// first of them that is a name already.
-    pub fn declare(&mut self, words: &[Word]) -> Result<Option<Span>, NoMemory>
+    /// Adds the names of the words one after the other. After `NoMemory` those that were there are still
+    /// first.
+    fn declare_each(&mut self, words: &[Word]) -> Result<Option<Span>, NoMemory>
         ensures new { OnOk result (self.new ≡ with_words self.old (map word_tree words.now)) }
         ensures doubled { IfOk result (λ s. s ≡ first (doubled_words self.old (map word_tree words.now))) }
+        ensures err { OnErr result (take (length self.old) self.new ≡ self.old) }
     {
         let mut doubled = None;
         for word in words {
             doubled = self.declare_one(word, doubled)?;
         }
         Ok(doubled)
+    }
+
+    /// Adds the names of words that are declared, one after the other, and gives the place of the
+    /// first of them that is a name already. After `NoMemory` nothing has changed.
+    pub fn declare(&mut self, words: &[Word]) -> Result<Option<Span>, NoMemory>
+        ensures new { OnOk result (self.new ≡ with_words self.old (map word_tree words.now)) }
+        ensures doubled { IfOk result (λ s. s ≡ first (doubled_words self.old (map word_tree words.now))) }
+        ensures err { OnErr result (self.new ≡ self.old) }
+    {
+        let n = self.len();
+        let doubled = self.declare_each(words);
+        if doubled.is_err() {
+            self.keep(n);
+        }
+        doubled
     }
 }
 

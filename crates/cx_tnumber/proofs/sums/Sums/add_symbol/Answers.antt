@@ -18,7 +18,7 @@ returns c u =
     ap (λ es. sum_at c.args.self.now.number (texts es) u) c.in_ok-insert.ensures.entries
     ∙ grown c.args.self.now.number c.args.z (to_z w128 (of_z w128 c.in_ok-more.more)) c.in_ok-text.text c.args.self.now.symbols.entries
     (sum
-    ∙ c.in_ok-more.ensures
+    ∙ c.in_ok-more.ensures.value
     ∙ ap (λ x. x +ℤ to_z w128 (of_z w128 c.of.result)) more
     ∙ ap (λ x. c.args.z +ℤ x) (before ∙ c.of.ensures ∙ ap (symbol_sum (texts c.args.self.now.symbols.entries)) (sym c.in_ok-text.ensures.items)))
     u
