@@ -8,4 +8,5 @@ mod value;
 mod walk;
 
 pub use conversion::{common, promoted};
+pub use number::{convert, difference, moved_back, moved_on, operated, sum, truth};
 pub use walk::{constant_value, is_constant};

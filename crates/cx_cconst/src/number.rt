@@ -1,7 +1,7 @@
-ghost use Rattle.std.specs.Prelude.{◌≡◌, ◌≢◌, ◌<◌, ◌*◌, ◌^◌, ℤ, pos, nat_abs, ◌≤ℤ◌, ◌<ℤ◌, ◌+ℤ◌, ◌-ℤ◌, ◌*ℤ◌, int_div, int_rem, int_lt, int_le, bit_and, bit_or, bit_xor, ◌&&◌, IsTrue, if◌then◌else◌};
+ghost use Rattle.std.specs.Prelude.{◌≡◌, ◌≢◌, ◌<◌, ◌*◌, ◌^◌, ℤ, pos, nat_abs, ◌≤ℤ◌, ◌<ℤ◌, ◌+ℤ◌, ◌-ℤ◌, ◌*ℤ◌, int_div, int_rem, int_lt, int_le, bit_and, bit_or, bit_xor, ◌&&◌, IsTrue, IsFalse, if◌then◌else◌};
 ghost use Rattle.std.specs.Int.{int_div_euclid, int_wrap};
 ghost use mir.Syntax.{w128};
-ghost use Rattle.cx_cconst.specs.Word.{IsWord};
+ghost use Rattle.cx_cconst.specs.Word.{IsWord, overflowing};
 ghost use Rattle.std.specs.Ordering.{int_eq};
 ghost use Rattle.cx_base.specs.Number.{InRange};
 ghost use Rattle.cx_ctree.specs.Conversions as types;
@@ -12,7 +12,7 @@ use cx_base::{CInt, wrap};
 use cx_ctree::{Binary, Unary};
 
 /// The number that tells the truth (C11 6.5.8).
-fn truth(holds: bool) -> i128
+pub fn truth(holds: bool) -> i128
     ensures { result ≡ spec.truth holds }
 {
     if holds { 1 } else { 0 }
@@ -69,9 +69,16 @@ fn times(x: i128, y: i128) -> i128
     x.wrapping_mul(y)
 }
 
+// Whether the quotient is no number of 128 bits.
+fn overflows(x: i128, y: i128) -> bool
+    ensures { result ≡ overflowing x y }
+{
+    is_same(x, i128::MIN) && is_same(y, -1)
+}
+
 #[tactic(auto, using(crate::proofs::Ranges::quotient_fits, crate::proofs::Ranges::nonzero_bits))]
 fn quotient(x: i128, y: i128) -> i128
-    requires word { IsWord x }
+    requires small { IsFalse (overflowing x y) }
     requires divisor { y ≢ pos 0 }
     ensures { result ≡ int_div x y }
 {
@@ -80,7 +87,7 @@ fn quotient(x: i128, y: i128) -> i128
 
 #[tactic(auto, using(crate::proofs::Ranges::quotient_fits, crate::proofs::Ranges::nonzero_bits))]
 fn rest(x: i128, y: i128) -> i128
-    requires word { IsWord x }
+    requires small { IsFalse (overflowing x y) }
     requires divisor { y ≢ pos 0 }
     ensures { result ≡ int_rem x y }
 {
@@ -96,7 +103,8 @@ pub fn convert(t: CInt, v: i128) -> i128
     wrap(t, v)
 }
 
-fn sum(t: CInt, x: i128, y: i128) -> i128
+/// The sum in the type.
+pub fn sum(t: CInt, x: i128, y: i128) -> i128
     ensures { result ≡ spec.converted t (x +ℤ y) }
 {
     convert(t, plus(x, y))
@@ -128,11 +136,14 @@ fn bits(t: CInt, v: i128) -> u64
 }
 
 // A quotient, or what comes with it, where the type has the quotient (C11 6.5.5).
+#[tactic(auto, using(crate::proofs::Ranges::not_held))]
 fn divided(t: CInt, x: i128, y: i128, whole: bool) -> Option<i128>
-    requires word { IsWord x }
     ensures { result ≡ spec.divided t x y (if whole then int_div x y else int_rem x y) }
 {
     if is_zero(y) {
+        return None;
+    }
+    if overflows(x, y) {
         return None;
     }
     let of_both = quotient(x, y);
@@ -199,7 +210,6 @@ fn all_bits(t: CInt, x: i128, y: i128) -> i128
 
 /// What the operator gives for two numbers of the type, of which the second is the count of a shift.
 pub fn operated(op: Binary, t: CInt, x: i128, y: i128) -> Option<i128>
-    requires { IsWord x }
     ensures { result ≡ spec.operated op t x y }
 {
     match op {
@@ -236,13 +246,15 @@ pub fn unary_value(op: Unary, t: CInt, v: i128) -> i128
     }
 }
 
-fn moved_on(p: i128, i: i128, size: u64) -> i128
+/// The pointer moved on by so many units of this size (C11 6.5.6).
+pub fn moved_on(p: i128, i: i128, size: u64) -> i128
     ensures { result ≡ spec.converted types.unsigned_long (p +ℤ i *ℤ pos size) }
 {
     sum(unsigned_long(), p, times(i, wide(size)))
 }
 
-fn moved_back(p: i128, i: i128, size: u64) -> i128
+/// The pointer moved back by so many units of this size (C11 6.5.6).
+pub fn moved_back(p: i128, i: i128, size: u64) -> i128
     ensures { result ≡ spec.converted types.unsigned_long (p +ℤ (pos 0 -ℤ i) *ℤ pos size) }
 {
     sum(unsigned_long(), p, times(minus(0, i), wide(size)))
