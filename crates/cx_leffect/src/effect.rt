@@ -16,13 +16,12 @@ ghost use Rattle.cx_lcode.specs.Values as values_code;
 ghost use Rattle.cx_lemit.specs.Made.{Emits};
 
 use cx_base::{List, NoMemory, Span};
+use cx_cmean::{applied_in, number_in, number_of, right_in, unit_in};
 use cx_ctree::{Binary, CType, Call, Effect, Expr, ExprKind, Param, Rhs, Unit};
 use cx_ctype::{ValueType, unsigned_long, value_type};
 use cx_goto::{Instr, Op};
-use cx_lemit::{Builder, applied_in, convert, line, right_in};
-use cx_lsize::{
-    number_given, number_in, number_of, op_of, params_of, right_last, unit_in, val_last,
-};
+use cx_lemit::{Builder, convert, line};
+use cx_lsize::{number_given, op_of, params_of, right_last, val_last};
 use cx_lvalue::{emit_place, emit_val};
 
 /// Arguments, each in its own local and converted to the type of its parameter.

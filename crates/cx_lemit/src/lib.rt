@@ -5,6 +5,4 @@ mod builder;
 mod lines;
 
 pub use builder::{Builder, line, start};
-pub use lines::{
-    applied_in, compared_in, convert, further, is_same, is_shift, object, right_in, scale, truth,
-};
+pub use lines::{convert, further, object, scale, truth};

@@ -1,58 +1,17 @@
-//! Lines that are common to all code, and the types of operands.
+//! Lines that are common to all code.
 
 ghost use Rattle.std.specs.Prelude.{◌≡◌, ◌<◌, OnOk};
 ghost use Rattle.cx_ctree.specs.Types.{type_tree};
-ghost use Rattle.cx_cconst.specs.Constants as numbers;
-ghost use Rattle.cx_cmean.specs.Numbers as values;
-ghost use Rattle.cx_ctype.specs.ValueTypes.{value_tree};
 ghost use Rattle.cx_lcode.specs.Items as items;
 ghost use Rattle.cx_lcode.specs.Values as codes;
 ghost use Rattle.cx_lemit.specs.Made.{Emits, truth_code};
 
 use crate::builder::{Builder, line, start};
 use cx_base::{CInt, NoMemory, Span};
-use cx_ctree::{Binary, CType};
-use cx_ctype::{ValueType, common, promoted, unsigned_long};
+use cx_cmean::is_same;
+use cx_ctree::CType;
+use cx_ctype::unsigned_long;
 use cx_goto::{End, Instr, Op};
-
-/// Whether the operator is a shift.
-pub fn is_shift(op: Binary) -> bool
-    ensures { result ≡ numbers.is_shift op }
-{
-    match op {
-        Binary::Shl | Binary::Shr => true,
-        _ => false,
-    }
-}
-
-/// Whether the two types are one.
-pub fn is_same(t: CInt, u: CInt) -> bool
-    ensures { result ≡ values.is_same t u }
-{
-    t.size == u.size && t.signed == u.signed
-}
-
-/// The type in which an operator on integers is applied (C11 6.3.1.8; 6.5.7 for shifts).
-pub fn applied_in(op: Binary, t: CInt, u: CInt) -> CInt
-    ensures { result ≡ values.applied_in op t u }
-{
-    if is_shift(op) {
-        promoted(t)
-    } else {
-        common(t, u)
-    }
-}
-
-/// The type to which the right operand is converted.
-pub fn right_in(op: Binary, t: CInt, u: CInt) -> CInt
-    ensures { result ≡ values.right_in op t u }
-{
-    if is_shift(op) {
-        promoted(u)
-    } else {
-        common(t, u)
-    }
-}
 
 /// Converts a local, where the types differ.
 pub fn convert(code: &mut Builder, span: Span, from: CInt, to: CInt, t: u32) -> Result<(), NoMemory>
@@ -103,16 +62,6 @@ pub fn further(code: &mut Builder, span: Span, off: u64, t: u32) -> Result<(), N
         span,
         Instr::Bin(t, Op::Add, unsigned_long(), t, t + 1),
     )
-}
-
-/// The type in which values of these types are compared; pointers compare as numbers.
-pub fn compared_in(t: ValueType<'_>, u: ValueType<'_>) -> CInt
-    ensures { result ≡ values.compared_in (value_tree t.entry) (value_tree u.entry) }
-{
-    match (t, u) {
-        (ValueType::Int(t), ValueType::Int(u)) => common(t, u),
-        _ => unsigned_long(),
-    }
 }
 
 /// The two blocks that leave 1 or 0 in the local, and go on with block `end`; jumps have the place

@@ -12,11 +12,12 @@ ghost use Rattle.cx_lcode.specs.Needs as spec;
 ghost use Rattle.cx_sname.specs.File.{declared_of};
 
 use crate::number::{capped, greater, more};
+use cx_cmean::{offset_in, target_offset};
 use cx_ctree::{
     CType, Call, Effect, Expr, ExprKind, Group, Param, Rhs, Stmt, StmtKind, Unary, Unit,
 };
 use cx_ctype::{ValueType, value_type};
-use cx_lsize::{Sort, offset_in, params_of, sort_of, target_offset};
+use cx_lsize::{Sort, params_of, sort_of};
 
 // Of an operator, whose operands' values use so many: a pointer is moved by a product.
 fn operation_need(t: &CType, w: &CType, x: u32, y: u32) -> u32

@@ -15,11 +15,12 @@ ghost use Rattle.cx_sname.specs.File.{declared_of};
 
 use crate::fault::{LimitKind, LowerFault};
 use cx_base::{CInt, List, NoMemory, Span};
+use cx_cmean::number_in;
 use cx_ctree::{CType, Typed, Unit};
 use cx_goto::{Block, Code, End};
 use cx_lemit::Builder;
 use cx_lneed::stmt_need;
-use cx_lsize::{number_in, stmt_starts};
+use cx_lsize::stmt_starts;
 use cx_lstmt::emit_stmt;
 use std::alloc::Global;
 

@@ -16,12 +16,13 @@ ghost use Rattle.cx_lpart.specs.Settings.{setting};
 
 use cx_base::{NoMemory, Span, Token, wrap};
 use cx_cconst::constant_value;
+use cx_cmean::{is_same, number_in, number_of};
 use cx_ctree::{CType, Effect, Expr, Group, Rhs, Unit};
 use cx_ctype::promoted;
 use cx_goto::{End, Instr, Rel};
 use cx_leffect::{emit_effect, emit_right};
-use cx_lemit::{Builder, is_same, line, start};
-use cx_lsize::{effect_last, labels_last, number_in, number_of, stmts_last};
+use cx_lemit::{Builder, line, start};
+use cx_lsize::{effect_last, labels_last, stmts_last};
 use cx_lvalue::emit_test;
 
 // The place of the first token that begins there.

@@ -1,4 +1,4 @@
-//! How many blocks code starts, and what lowering looks up of operators, types and functions.
+//! How many blocks code starts, and what lowering looks up of operators and functions.
 #![tactic(auto)]
 
 mod count;
@@ -16,6 +16,4 @@ pub use last::{
     right_last, stmt_last, stmts_last, test_last, val_last,
 };
 pub use sort::{Sort, op_of, rel_of, sort_of};
-pub use table::{
-    number_given, number_in, number_of, offset_in, params_of, size_in, target_offset, unit_in,
-};
+pub use table::{number_given, params_of};

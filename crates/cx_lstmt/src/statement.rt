@@ -11,6 +11,7 @@ ghost use Rattle.cx_lemit.specs.Made.{Emits};
 ghost use Rattle.cx_lpart.specs.Settings.{setting};
 
 use cx_base::{NoMemory, Span};
+use cx_cmean::{number_in, number_of};
 use cx_ctree::{CType, Effect, Expr, Group, Stmt, StmtKind, Unit};
 use cx_ctype::promoted;
 use cx_goto::End;
@@ -21,8 +22,8 @@ use cx_lpart::{
     first_token,
 };
 use cx_lsize::{
-    all_labels_last, condition_last, effects_last, groups_last, number_in, number_of, stmt_last,
-    stmts_last, test_last, val_last,
+    all_labels_last, condition_last, effects_last, groups_last, stmt_last, stmts_last, test_last,
+    val_last,
 };
 use cx_lvalue::{emit_test, emit_val};
 

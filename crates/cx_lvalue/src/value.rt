@@ -14,16 +14,15 @@ ghost use Rattle.cx_lvalue.specs.Tests.{tests_itself};
 
 use crate::part::{complement, has_test, nonzero};
 use cx_base::{CInt, NoMemory, Span};
+use cx_cmean::{
+    applied_in, compared_in, number_in, number_of, offset_in, right_in, size_in, target_offset,
+    unit_in,
+};
 use cx_ctree::{Binary, Expr, ExprKind, Unary, Unit};
 use cx_ctype::{ValueType, signed_long, unsigned_long, value_type};
 use cx_goto::{End, Instr, Op};
-use cx_lemit::{
-    Builder, applied_in, compared_in, convert, further, line, object, right_in, scale, start, truth,
-};
-use cx_lsize::{
-    Sort, number_in, number_of, offset_in, op_of, rel_of, size_in, sort_of, target_offset,
-    test_last, unit_in, val_last,
-};
+use cx_lemit::{Builder, convert, further, line, object, scale, start, truth};
+use cx_lsize::{Sort, op_of, rel_of, sort_of, test_last, val_last};
 
 /// The code of a value in local `t`, which begins in block `at`.
 #[cycle(lowered)]
