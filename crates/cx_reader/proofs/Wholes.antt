@@ -1,5 +1,5 @@
 -- What a reading function of a whole tells: the only tree, or where the fault is.
-use Rattle.std.proofs.Common.{◌≡◌, ℕ, suc, ◌<◌, ◌-◌, List, [], ◌∷◌, ◌++◌, length, Option, Some, refl, sym, ap, ◌∙◌, subst, append_assoc, append-nil, length-append, arith}
+use Rattle.std.proofs.Common.{◌≡◌, ℕ, suc, ◌<◌, ◌-◌, List, [], ◌∷◌, ◌++◌, length, Some, refl, sym, ap, ◌∙◌, subst, append_assoc, append-nil, length-append, arith}
 use Rattle.std.specs.Prelude.{max, slice_get}
 use Rattle.cx_reader.specs.Answers.{Got, Answer, read, fault, give}
 use Rattle.cx_reader.specs.Parts.{Begins}
