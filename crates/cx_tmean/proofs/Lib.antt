@@ -1,0 +1,5 @@
+pub mod More
+pub mod Lengths
+pub mod Fixed
+pub mod Takes
+mod Examples
