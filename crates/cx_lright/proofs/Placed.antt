@@ -59,7 +59,7 @@ get_end (x ∷ xs) = get_end xs
 length_push : {A : Type 0} → (xs : List A) (y : A) → length (xs ++ y ∷ []) ≡ length xs + 1
 length_push xs y = length-append xs (y ∷ [])
 
-placed : (p : Program) (is : List Item) (code pre : List BlockTree) (keep : ℕ) (done : List LineTree) (e : End) (s : Span) → code ≡ pre ++ blocks_of keep done is e s
+pub placed : (p : Program) (is : List Item) (code pre : List BlockTree) (keep : ℕ) (done : List LineTree) (e : End) (s : Span) → code ≡ pre ++ blocks_of keep done is e s
     → let c : Coded = record { program = p; blocks = code; last_end = e; last_span = s } in HasAt c (length pre) (length done) is
 placed p [] code pre keep done e s eq = (record { keep = keep; lines = done; end = e; span = s }, ap (λ c. slice_get c (length pre)) eq ∙ get_middle pre _ [], get_end done, refl, refl)
 placed p (line l ∷ is) code pre keep done e s eq =
