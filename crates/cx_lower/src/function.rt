@@ -4,7 +4,10 @@ ghost use Rattle.cx_ctree.specs.Stmts.{stmt_tree};
 ghost use Rattle.cx_ctree.specs.Decls.{typed_tree};
 ghost use Rattle.cx_cmean.specs.Program.{Program};
 ghost use Rattle.cx_cmean.specs.Statements as means;
+ghost use Rattle.cx_gline.specs.Law.{NumbersSmall, ReturnsAgree};
+ghost use Rattle.cx_gline.specs.Lines.{ConstantsSmall, CallsAgree};
 ghost use Rattle.cx_goto.specs.Trees.{block_tree, code_tree};
+ghost use Rattle.cx_goto.specs.Whole.{IsWhole};
 ghost use Rattle.cx_lcode.specs.Lowered as spec;
 ghost use Rattle.cx_lcode.specs.Needs as needs;
 ghost use Rattle.cx_lcode.specs.Starts as starts;
@@ -14,6 +17,7 @@ ghost use Rattle.cx_lright.specs.Right.{GivesNumbers, DoesAs};
 ghost use Rattle.cx_sname.specs.File.{declared_of};
 
 use crate::fault::{LimitKind, LowerFault};
+use cx_abi::tags_are_by_members;
 use cx_base::{CInt, List, NoMemory, Span};
 use cx_cmean::number_in;
 use cx_ctree::{CType, Typed, Unit};
@@ -141,6 +145,12 @@ fn blocks_within(
 /// the tables, and a run of it does what the function does, where callees that are declared with a
 /// result give one.
 ///
+/// Each call in it has as many arguments as the function of its name has parameters. Where the returns
+/// of the tree give a value exactly in a function with a result, the blocks and locals that the code
+/// names are there, and its returns have a local exactly in such a function. Where the numbers in the
+/// tree and of the enumeration constants have absolute values of at most 2^96, those of the code's
+/// constants have too.
+///
 /// `TooLarge` comes exactly where that code passes a limit, and tells the first of: 128 locals with
 /// temporaries, 512 blocks, 4096 lines of all blocks.
 pub fn lower(alloc: Global, unit: &Unit, typed: &Typed) -> Result<Code, LowerFault>
@@ -148,7 +158,11 @@ pub fn lower(alloc: Global, unit: &Unit, typed: &Typed) -> Result<Code, LowerFau
     ensures within { FunctionFine (declared_of unit.now) (typed_tree typed.now) → IfOk result (λ code. first_passed (code_tree code) ≡ None) }
     ensures limit { FunctionFine (declared_of unit.now) (typed_tree typed.now) → IfErr result (Tells (spec.lowered (declared_of unit.now) unit.now.tokens (typed_tree typed.now))) }
     ensures right { FunctionFine (declared_of unit.now) (typed_tree typed.now) → IfOk result (λ code. (p : Program) → p.unit ≡ (declared_of unit.now) → GivesNumbers p → DoesAs p (code_tree code) (typed_tree typed.now)) }
+    ensures whole { FunctionFine (declared_of unit.now) (typed_tree typed.now) → ReturnsAgree (typed_tree typed.now) → IfOk result (λ code. IsWhole code) }
+    ensures constants { FunctionFine (declared_of unit.now) (typed_tree typed.now) → NumbersSmall (declared_of unit.now) (typed_tree typed.now) → IfOk result (λ code. ConstantsSmall (code_tree code)) }
+    ensures calls { FunctionFine (declared_of unit.now) (typed_tree typed.now) → IfOk result (λ code. CallsAgree (declared_of unit.now) (code_tree code)) }
 {
+    tags_are_by_members(unit);
     let locals = locals_within(unit, typed)?;
     let named = typed.locals.len() as u32;
     let blocks = blocks_within(alloc, unit, typed, named)?;

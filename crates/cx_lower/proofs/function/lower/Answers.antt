@@ -2,11 +2,14 @@ use Rattle.std.proofs.Common.{◌≡◌, ◌≤◌, ◌+◌, ℕ, length, Err, r
 use Rattle.std.proofs.lemmas.List.{length-map}
 use Rattle.cx_ctree.specs.Decls.{param_tree, typed_tree}
 use Rattle.cx_ctree.specs.Types.{type_tree}
+use Rattle.cx_gline.proofs.Whole.{constants_are_small, calls_have_arguments}
+use Rattle.cx_gline.specs.Lines.{ConstantsSmall, CallsAgree}
 use Rattle.cx_lcode.specs.Lowered.{lowered}
 use Rattle.cx_lcode.specs.Needs.{stmt_need}
 use Rattle.cx_lcode.specs.Starts.{stmt_starts}
 use Rattle.cx_lower.specs.Limits.{TellsOfNumbers, TellsOfLines, lines_of}
 use Rattle.cx_lower.proofs.Making.{tells_numbers, tells_lines, code_is, none_passed, right_of}
+use Rattle.cx_lwhole.proofs.Whole.{code_is_whole}
 use Rattle.cx_sname.specs.File.{declared_of}
 use Rattle.cx_lower.proofs.function.lower.Goals as goal
 
@@ -45,3 +48,16 @@ returns-clause-within c = λ fine.
 
 pub returns-clause-right : goal.returns-clause-right
 returns-clause-right c = λ fine. right_of (declared_of c.args.unit.now) c.args.unit.now.tokens (typed_tree c.args.typed.now) _ fine (returns-clause-code c fine)
+
+pub returns-clause-whole : goal.returns-clause-whole
+returns-clause-whole c = λ fine agree. code_is_whole (declared_of c.args.unit.now) c.args.unit.now.tokens (typed_tree c.args.typed.now) _ fine agree (returns-clause-code c fine)
+
+pub returns-clause-constants : goal.returns-clause-constants
+returns-clause-constants c = λ fine small.
+    let d = declared_of c.args.unit.now in let f = typed_tree c.args.typed.now in
+    subst ConstantsSmall (sym (returns-clause-code c fine)) (constants_are_small d c.args.unit.now.tokens f c.tags_are_by_members.ensures fine small)
+
+pub returns-clause-calls : goal.returns-clause-calls
+returns-clause-calls c = λ fine.
+    let d = declared_of c.args.unit.now in let f = typed_tree c.args.typed.now in
+    subst (CallsAgree d) (sym (returns-clause-code c fine)) (calls_have_arguments d c.args.unit.now.tokens f fine)
