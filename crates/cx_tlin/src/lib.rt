@@ -12,5 +12,6 @@ mod parts;
 mod readers;
 
 pub use forms::span_of;
+pub use lists::{Lins, Names};
 pub use parts::word;
 pub use readers::{lin, lins, name, names, part, relation, relations};
