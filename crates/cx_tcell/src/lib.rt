@@ -4,7 +4,9 @@
 #![tactic(auto)]
 
 mod holds;
+mod parentheses;
 mod pointer;
 mod reader;
 
+pub use parentheses::in_parentheses;
 pub use reader::cell;

@@ -1,42 +1,17 @@
-ghost use Rattle.std.specs.Prelude.{map, option_map};
+ghost use Rattle.std.specs.Prelude.{option_map};
 ghost use Rattle.cx_reader.specs.Reading.{Gives};
 ghost use Rattle.cx_tsyn.specs.Lins.{lin_tree};
 ghost use Rattle.cx_tsyn.specs.Cells.{cell_kind_tree};
 ghost use Rattle.cx_tlin.specs.Reading.{lin_at};
-ghost use Rattle.cx_tcell.specs.Reading.{in_parentheses_at, offset_at, null_at, pointer_at};
+ghost use Rattle.cx_tcell.specs.Reading.{offset_at, null_at, pointer_at};
 
-use cx_base::List;
+use crate::parentheses::in_parentheses;
 use cx_cword::Punctuator;
 use cx_reader::{Read, Stop, split};
-use cx_tlin::{lin, lins, name};
+use cx_tlin::{Lins, lin, name};
 use cx_tsyn::{Lin, SCellKind};
 use cx_tword::{TypeLexeme, TypeWord, is_mark, is_word};
 use std::alloc::Global;
-
-// The arguments of a region, if there are any.
-fn args<'a>(
-    alloc: Global,
-    bytes: &[u8],
-    lexemes: &'a [TypeLexeme],
-) -> Result<Read<'a, TypeLexeme, List<Lin>>, Stop>
-    ensures { Gives (map lin_tree) result (in_parentheses_at (lin_at bytes.now) lexemes.now) }
-{
-    match split(lexemes) {
-        Some((o, rest)) if is_mark(Punctuator::OpenParen, o) => {
-            let x = lins(alloc, bytes, rest)?;
-            match split(x.rest) {
-                Some((c, rest)) if is_mark(Punctuator::CloseParen, c) => {
-                    Ok(Read { tree: x.tree, rest })
-                }
-                _ => Err(Stop::Unread(x.rest.len())),
-            }
-        }
-        _ => Ok(Read {
-            tree: List::new(alloc),
-            rest: lexemes,
-        }),
-    }
-}
 
 #[tactic(auto, unfolding(crate::specs::Reading::offset_at))]
 fn offset<'a>(
@@ -84,7 +59,7 @@ pub fn pointer<'a>(
     ensures { Gives cell_kind_tree result (pointer_at bytes.now lexemes.now) }
 {
     let v = name(alloc, bytes, lexemes)?;
-    let xs = args(alloc, bytes, v.rest)?;
+    let xs = in_parentheses(alloc, &Lins { alloc, bytes }, v.rest)?;
     let y = offset(alloc, bytes, xs.rest)?;
     let z = null(y.rest)?;
     Ok(Read {
