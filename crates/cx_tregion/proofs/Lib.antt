@@ -1,3 +1,4 @@
 pub mod Told
 pub mod There
 pub mod Laws
+mod Numbers

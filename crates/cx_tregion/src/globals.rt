@@ -1,4 +1,4 @@
-ghost use Rattle.cx_reader.specs.Answers.{listed_at};
+ghost use Rattle.std.specs.Prelude.{ℤ};
 ghost use Rattle.cx_reader.specs.Reading.{Gives};
 ghost use Rattle.cx_cword.specs.declared.word.Punctuator.TheVariants as p;
 ghost use Rattle.cx_tword.specs.Marks as marks;
@@ -10,7 +10,8 @@ ghost use Rattle.cx_tregion.specs.Parts.{global_parts};
 
 use cx_base::List;
 use cx_cword::Punctuator;
-use cx_reader::{Read, Stop, front, split};
+use cx_reader::{Items, Read, Stop, front, split};
+use cx_tcell::in_parentheses;
 use cx_tlin::{name, span_of};
 use cx_tsyn::{GlobalItem, Word};
 use cx_tword::{TypeLexeme, TypeLexemeKind, TypeWord, is_mark, is_word};
@@ -37,60 +38,39 @@ fn number<'a>(lexemes: &'a [TypeLexeme]) -> Result<Read<'a, TypeLexeme, i128>, S
     }
 }
 
-// Numbers with commas between them, at least one.
-#[tactic(auto, using(cx_reader::proofs::Turns::many_turn, cx_reader::proofs::Turns::many_none))]
-fn numbers<'a>(
-    alloc: Global,
-    lexemes: &'a [TypeLexeme],
-) -> Result<Read<'a, TypeLexeme, List<i128>>, Stop>
-    ensures { Gives (λ zs. zs) result (listed_at (marks.is_mark p.Comma) number_at lexemes.now) }
-{
-    let x = number(lexemes)?;
-    let mut tree = List::new(alloc);
-    tree.push(x.tree)?;
-    let mut rest = x.rest;
-    // Each turn takes a lexeme, so there are no more turns than lexemes and one.
-    let mut n = rest.len() + 1;
-    'each: while n > 0 {
-        match split(rest) {
-            None => return Ok(Read { tree, rest }),
-            Some((o, after)) => {
-                if is_mark(Punctuator::Comma, o) {
-                    let y = number(after)?;
-                    tree.push(y.tree)?;
-                    rest = y.rest;
-                } else {
-                    return Ok(Read { tree, rest });
-                }
-            }
-        }
-        n -= 1;
+// Numbers with commas between them.
+#[derive(Drop)]
+struct Numbers {}
+
+impl Items<TypeLexeme> for Numbers {
+    type Item = i128;
+
+    ghost Tree = { ℤ };
+
+    ghost tree = { λ z. z };
+
+    ghost between = { marks.is_mark p.Comma };
+
+    ghost item_at = { λ _. number_at };
+
+    fn is_between(&self, lexeme: TypeLexeme) -> bool {
+        is_mark(Punctuator::Comma, lexeme)
     }
-    Err(Stop::Unread(rest.len()))
+
+    fn item<'a>(&self, lexemes: &'a [TypeLexeme]) -> Result<Read<'a, TypeLexeme, i128>, Stop> {
+        number(lexemes)
+    }
 }
 
 // The arguments of a region, if there are any.
+#[tactic(auto, using(crate::proofs::Numbers::as_read))]
 fn args<'a>(
     alloc: Global,
     lexemes: &'a [TypeLexeme],
 ) -> Result<Read<'a, TypeLexeme, List<i128>>, Stop>
     ensures { Gives (λ zs. zs) result (in_parentheses_at number_at lexemes.now) }
 {
-    match split(lexemes) {
-        Some((o, rest)) if is_mark(Punctuator::OpenParen, o) => {
-            let x = numbers(alloc, rest)?;
-            match split(x.rest) {
-                Some((c, rest)) if is_mark(Punctuator::CloseParen, c) => {
-                    Ok(Read { tree: x.tree, rest })
-                }
-                _ => Err(Stop::Unread(x.rest.len())),
-            }
-        }
-        _ => Ok(Read {
-            tree: List::new(alloc),
-            rest: lexemes,
-        }),
-    }
+    in_parentheses(alloc, &Numbers {}, lexemes)
 }
 
 // The name of a region, its arguments and the semicolon behind them.

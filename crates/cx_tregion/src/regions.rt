@@ -2,15 +2,14 @@ ghost use Rattle.std.specs.Prelude.{map};
 ghost use Rattle.cx_reader.specs.Reading.{Gives};
 ghost use Rattle.cx_tsyn.specs.Words.{word_tree};
 ghost use Rattle.cx_tsyn.specs.Items.{region_tree};
-ghost use Rattle.cx_tlin.specs.Reading.{name_at};
-ghost use Rattle.cx_tcell.specs.Reading.{in_parentheses_at};
 ghost use Rattle.cx_tregion.specs.Reading.{shared_at, region_end, region_from, region_at};
 ghost use Rattle.cx_tregion.specs.Parts.{parts_tree};
 
 use cx_base::List;
 use cx_cword::Punctuator;
 use cx_reader::{Read, Stop, front, split};
-use cx_tlin::{name, names, span_of};
+use cx_tcell::in_parentheses;
+use cx_tlin::{Names, name, span_of};
 use cx_tsyn::{RegionItem, SType, Word};
 use cx_ttype::stype;
 use cx_tword::{TypeLexeme, TypeWord, is_mark, is_word};
@@ -33,31 +32,6 @@ fn shared<'a>(lexemes: &'a [TypeLexeme]) -> Result<Read<'a, TypeLexeme, bool>, S
         Some((o, rest)) if is_word(TypeWord::Shared, o) => Ok(Read { tree: true, rest }),
         _ => Ok(Read {
             tree: false,
-            rest: lexemes,
-        }),
-    }
-}
-
-// The parameters of a region, if there are any.
-fn params<'a>(
-    alloc: Global,
-    bytes: &[u8],
-    lexemes: &'a [TypeLexeme],
-) -> Result<Read<'a, TypeLexeme, List<Word>>, Stop>
-    ensures { Gives (map word_tree) result (in_parentheses_at (name_at bytes.now) lexemes.now) }
-{
-    match split(lexemes) {
-        Some((o, rest)) if is_mark(Punctuator::OpenParen, o) => {
-            let x = names(alloc, bytes, rest)?;
-            match split(x.rest) {
-                Some((c, rest)) if is_mark(Punctuator::CloseParen, c) => {
-                    Ok(Read { tree: x.tree, rest })
-                }
-                _ => Err(Stop::Unread(x.rest.len())),
-            }
-        }
-        _ => Ok(Read {
-            tree: List::new(alloc),
             rest: lexemes,
         }),
     }
@@ -99,7 +73,7 @@ fn region_from<'a>(
     ensures { Gives parts_tree result (region_from bytes.now shared lexemes.now) }
 {
     let v = name(alloc, bytes, lexemes)?;
-    let ps = params(alloc, bytes, v.rest)?;
+    let ps = in_parentheses(alloc, &Names { alloc, bytes }, v.rest)?;
     match split(ps.rest) {
         Some((e, rest)) if is_mark(Punctuator::Assign, e) => {
             region_end(alloc, bytes, shared, v.tree, ps.tree, rest)
