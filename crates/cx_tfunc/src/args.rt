@@ -1,15 +1,18 @@
 // What stands before the arrow.
 
 ghost use Rattle.std.specs.Prelude.{◌≡◌, map};
+ghost use Rattle.cx_cword.specs.declared.word.Punctuator.TheVariants as p;
 ghost use Rattle.cx_reader.specs.Reading.{Gives};
 ghost use Rattle.cx_tsyn.specs.Words.{word_tree};
-ghost use Rattle.cx_tsyn.specs.Cells.{cell_tree};
+ghost use Rattle.cx_tsyn.specs.Cells.{SCellTree, cell_tree};
+ghost use Rattle.cx_tword.specs.Marks as marks;
+ghost use Rattle.cx_tcell.specs.Reading.{cell_at};
 ghost use Rattle.cx_tfunc.specs.Funcs as spec;
-ghost use Rattle.cx_tfunc.specs.Reading.{function_name_at, function_binders_at, cells_at, some_args_at, args_from, args_at};
+ghost use Rattle.cx_tfunc.specs.Reading.{function_name_at, function_binders_at, some_args_at, args_from, args_at};
 
 use cx_base::List;
 use cx_cword::{LexemeKind, Punctuator};
-use cx_reader::{Read, Stop, split};
+use cx_reader::{Items, Read, Stop, listed, split};
 use cx_tcell::cell;
 use cx_tlin::{names, word};
 use cx_tsyn::{SCell, Word};
@@ -67,37 +70,31 @@ pub fn binders<'a>(
     }
 }
 
-// Cells with commas between them, at least one.
-#[tactic(auto, using(cx_reader::proofs::Turns::many_turn, cx_reader::proofs::Turns::many_none, cx_base::proofs::General::map_push))]
-fn cells<'a>(
+// Cells of the text, with commas between them.
+#[derive(Drop)]
+struct Cells<'b> {
     alloc: Global,
-    bytes: &[u8],
-    lexemes: &'a [TypeLexeme],
-) -> Result<Read<'a, TypeLexeme, List<SCell>>, Stop>
-    ensures { Gives (map cell_tree) result (cells_at bytes.now lexemes.now) }
-{
-    let x = cell(alloc, bytes, lexemes)?;
-    let mut tree = List::new(alloc);
-    tree.push(x.tree)?;
-    let mut rest = x.rest;
-    // Each turn takes a lexeme, so there are no more turns than lexemes and one.
-    let mut n = rest.len() + 1;
-    'each: while n > 0 {
-        match split(rest) {
-            None => return Ok(Read { tree, rest }),
-            Some((o, after)) => {
-                if is_mark(Punctuator::Comma, o) {
-                    let y = cell(alloc, bytes, after)?;
-                    tree.push(y.tree)?;
-                    rest = y.rest;
-                } else {
-                    return Ok(Read { tree, rest });
-                }
-            }
-        }
-        n -= 1;
+    bytes: &'b [u8],
+}
+
+impl<'b> Items<TypeLexeme> for Cells<'b> {
+    type Item = SCell;
+
+    ghost Tree = { SCellTree };
+
+    ghost tree = { cell_tree };
+
+    ghost between = { marks.is_mark p.Comma };
+
+    ghost item_at = { λ s. cell_at s.bytes.now };
+
+    fn is_between(&self, lexeme: TypeLexeme) -> bool {
+        is_mark(Punctuator::Comma, lexeme)
     }
-    Err(Stop::Unread(rest.len()))
+
+    fn item<'a>(&self, lexemes: &'a [TypeLexeme]) -> Result<Read<'a, TypeLexeme, SCell>, Stop> {
+        cell(self.alloc, self.bytes, lexemes)
+    }
 }
 
 // Cells, at least one, and the parenthesis behind them.
@@ -108,7 +105,7 @@ fn some_args<'a>(
 ) -> Result<Read<'a, TypeLexeme, List<SCell>>, Stop>
     ensures { Gives (map cell_tree) result (some_args_at bytes.now lexemes.now) }
 {
-    let x = cells(alloc, bytes, lexemes)?;
+    let x = listed(alloc, &Cells { alloc, bytes }, lexemes)?;
     match split(x.rest) {
         Some((c, rest)) if is_mark(Punctuator::CloseParen, c) => Ok(Read { tree: x.tree, rest }),
         _ => Err(Stop::Unread(x.rest.len())),
