@@ -2,10 +2,9 @@
 
 ghost use Rattle.std.specs.Prelude.{◌≡◌, map};
 ghost use Rattle.cx_cword.specs.declared.word.Punctuator.TheVariants as p;
-ghost use Rattle.cx_reader.specs.Answers.{listed_at};
 ghost use Rattle.cx_reader.specs.Reading.{Gives};
 ghost use Rattle.cx_tsyn.specs.Words.{word_tree};
-ghost use Rattle.cx_tsyn.specs.Items.{arg_tree};
+ghost use Rattle.cx_tsyn.specs.Items.{SArgTree, arg_tree};
 ghost use Rattle.cx_tword.specs.Marks as marks;
 ghost use Rattle.cx_tcell.specs.Reading.{in_parentheses_at};
 ghost use Rattle.cx_talloc.specs.Allocs as spec;
@@ -13,7 +12,8 @@ ghost use Rattle.cx_talloc.specs.Reading.{divisor_at, param_at, arg_at};
 
 use cx_base::List;
 use cx_cword::Punctuator;
-use cx_reader::{Read, Stop, split};
+use cx_reader::{Items, Read, Stop, split};
+use cx_tcell::in_parentheses;
 use cx_tlin::word;
 use cx_tsyn::{SArg, Word};
 use cx_tword::{TypeLexeme, TypeLexemeKind, is_mark};
@@ -88,37 +88,31 @@ fn arg<'a>(
     }
 }
 
-// Arguments with commas between them, at least one.
-#[tactic(auto, using(cx_reader::proofs::Turns::many_turn, cx_reader::proofs::Turns::many_none, cx_base::proofs::General::map_push))]
-fn some_args<'a>(
+// Arguments of the text, with commas between them.
+#[derive(Drop)]
+struct BlockArgs<'b> {
     alloc: Global,
-    bytes: &[u8],
-    lexemes: &'a [TypeLexeme],
-) -> Result<Read<'a, TypeLexeme, List<SArg>>, Stop>
-    ensures { Gives (map arg_tree) result (listed_at (marks.is_mark p.Comma) (arg_at bytes.now) lexemes.now) }
-{
-    let x = arg(alloc, bytes, lexemes)?;
-    let mut tree = List::new(alloc);
-    tree.push(x.tree)?;
-    let mut rest = x.rest;
-    // Each turn takes a lexeme, so there are no more turns than lexemes and one.
-    let mut n = rest.len() + 1;
-    'each: while n > 0 {
-        match split(rest) {
-            None => return Ok(Read { tree, rest }),
-            Some((o, after)) => {
-                if is_mark(Punctuator::Comma, o) {
-                    let y = arg(alloc, bytes, after)?;
-                    tree.push(y.tree)?;
-                    rest = y.rest;
-                } else {
-                    return Ok(Read { tree, rest });
-                }
-            }
-        }
-        n -= 1;
+    bytes: &'b [u8],
+}
+
+impl<'b> Items<TypeLexeme> for BlockArgs<'b> {
+    type Item = SArg;
+
+    ghost Tree = { SArgTree };
+
+    ghost tree = { arg_tree };
+
+    ghost between = { marks.is_mark p.Comma };
+
+    ghost item_at = { λ s. arg_at s.bytes.now };
+
+    fn is_between(&self, lexeme: TypeLexeme) -> bool {
+        is_mark(Punctuator::Comma, lexeme)
     }
-    Err(Stop::Unread(rest.len()))
+
+    fn item<'a>(&self, lexemes: &'a [TypeLexeme]) -> Result<Read<'a, TypeLexeme, SArg>, Stop> {
+        arg(self.alloc, self.bytes, lexemes)
+    }
 }
 
 /// Reads the arguments, if there are any.
@@ -129,19 +123,5 @@ pub fn args<'a>(
 ) -> Result<Read<'a, TypeLexeme, List<SArg>>, Stop>
     ensures { Gives (map arg_tree) result (in_parentheses_at (arg_at bytes.now) lexemes.now) }
 {
-    match split(lexemes) {
-        Some((o, rest)) if is_mark(Punctuator::OpenParen, o) => {
-            let x = some_args(alloc, bytes, rest)?;
-            match split(x.rest) {
-                Some((c, rest)) if is_mark(Punctuator::CloseParen, c) => {
-                    Ok(Read { tree: x.tree, rest })
-                }
-                _ => Err(Stop::Unread(x.rest.len())),
-            }
-        }
-        _ => Ok(Read {
-            tree: List::new(alloc),
-            rest: lexemes,
-        }),
-    }
+    in_parentheses(alloc, &BlockArgs { alloc, bytes }, lexemes)
 }
