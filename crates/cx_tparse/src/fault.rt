@@ -6,7 +6,8 @@ use cx_lex::LexFault;
 use cx_titem::SyntaxFault;
 use thiserror::Error;
 
-/// Why the text of a type file has no tree. Each place is the offset of a byte from the first byte of the
+/// Why the text of a type file has no tree. The first three are faults of tokens: of several of these the
+/// one at the earliest place is answered. Each place is the offset of a byte from the first byte of the
 /// text.
 #[derive(Debug, Drop, PartialEq, Eq, Error)]
 pub enum ParseFault {
