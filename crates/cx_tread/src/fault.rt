@@ -5,8 +5,9 @@ use cx_base::{NoMemory, Span};
 use cx_tparse::ParseFault;
 use thiserror::Error;
 
-/// Why a text is no type file beside the C file. The causes are tried in this order, each over the whole
-/// text. Each place is the offset of a byte from the first byte of the text.
+/// Why a text is no type file beside the C file. The first three are faults of tokens: of several of these
+/// the one at the earliest place is answered. The other causes are tried after them in this order, each
+/// over the whole text. Each place is the offset of a byte from the first byte of the text.
 #[derive(Debug, Drop, PartialEq, Eq, Error)]
 pub enum TypeFault {
     /// The comment that begins at this byte with `/*` has no end.
