@@ -1,3 +1,4 @@
 pub mod Operands
 pub mod Parts
 pub mod Whole
+pub mod Returns
