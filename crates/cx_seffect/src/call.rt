@@ -5,7 +5,8 @@ ghost use Rattle.cx_ctree.specs.Decls.{param_tree, signature_tree};
 ghost use Rattle.cx_ctree.specs.Exprs.{expr_tree, call_tree};
 ghost use Rattle.cx_cname.specs.Known.{function_type};
 ghost use Rattle.cx_scope.specs.Views.{locals_of};
-ghost use Rattle.cx_sname.specs.File.{declared_of, meaning_of};
+ghost use Rattle.cx_sname.specs.File.{meaning_of};
+ghost use Rattle.cx_sfile.specs.Views.{declared_in};
 ghost use Rattle.cx_sname.specs.Meanings.{meaning_tree};
 ghost use Rattle.cx_ctype.specs.Operations as types;
 ghost use Rattle.cx_sexpr.specs.Typing.{typed};
@@ -15,11 +16,12 @@ ghost use Rattle.cx_seffect.specs.Taken.{call_view};
 
 use crate::kind::{is_scalar_type, is_taken, is_void};
 use cx_base::List;
-use cx_ctree::{CType, Call, Expr, Param, Signature, Unit};
+use cx_ctree::{CType, Call, Expr, Param, Signature};
 use cx_ctype::{is_zero, value_type};
 use cx_scope::Locals;
 use cx_sexpr::typed;
-use cx_sname::{Meaning, meaning_of};
+use cx_sfile::File;
+use cx_sname::Meaning;
 use cx_snode::SemaFault;
 use std::alloc::Global;
 
@@ -33,16 +35,16 @@ pub struct TypedCall<'a> {
 #[tactic(auto, using(cx_snode::proofs::Judged::behind_none, cx_snode::proofs::Judged::one_more, cx_snode::proofs::Judged::fault_of_next, crate::proofs::Lists::all_done))]
 fn typed_all(
     alloc: Global,
-    unit: &Unit,
+    file: &File<'_>,
     locals: &Locals,
     args: &[Expr],
 ) -> Result<List<Expr>, SemaFault>
-    ensures { Gives (map expr_tree) result (judged_all (typed (declared_of unit.now) (locals_of locals.now)) (map expr_tree args.now)) }
+    ensures { Gives (map expr_tree) result (judged_all (typed (declared_in file.now) (locals_of locals.now)) (map expr_tree args.now)) }
 {
     let mut done = List::new(alloc);
     let mut rest = args;
     while let [arg, after @ ..] = rest {
-        done.push(typed(alloc, unit, locals, arg)?)?;
+        done.push(typed(alloc, file, locals, arg)?)?;
         rest = after;
     }
     Ok(done)
@@ -81,8 +83,8 @@ fn is_callable(taken: bool, count: usize, sig: &Signature) -> bool
     has_count(params, count) && are_scalar(params) && has_result(taken, &sig.result)
 }
 
-fn first_misfit<'a>(unit: &Unit, args: &'a [Expr], params: &[Param]) -> Option<&'a Expr>
-    ensures { option_map (λ x. expr_tree x.now) result ≡ spec.first_misfit (declared_of unit.now) (map expr_tree args.now) (map (λ p. p.ctype) (map param_tree params.now)) }
+fn first_misfit<'a>(file: &File<'_>, args: &'a [Expr], params: &[Param]) -> Option<&'a Expr>
+    ensures { option_map (λ x. expr_tree x.now) result ≡ spec.first_misfit (declared_in file.now) (map expr_tree args.now) (map (λ p. p.ctype) (map param_tree params.now)) }
 {
     let mut rest = args;
     let mut others = params;
@@ -90,7 +92,7 @@ fn first_misfit<'a>(unit: &Unit, args: &'a [Expr], params: &[Param]) -> Option<&
         let [param, others_after @ ..] = others else {
             return None;
         };
-        let zero = is_zero(unit, arg);
+        let zero = is_zero(file.unit, arg);
         if !is_taken(zero, value_type(&arg.ctype), &param.ctype) {
             return Some(arg);
         }
@@ -102,18 +104,18 @@ fn first_misfit<'a>(unit: &Unit, args: &'a [Expr], params: &[Param]) -> Option<&
 
 #[tactic(auto, using(crate::proofs::Lists::count_once))]
 fn passed<'a>(
-    unit: &Unit,
+    file: &File<'_>,
     taken: bool,
     call: Call,
     sig: &'a Signature,
 ) -> Result<TypedCall<'a>, SemaFault>
-    ensures { Gives call_view result (spec.call_of (declared_of unit.now) taken (call_tree call) (Some (function_type (signature_tree sig.now)))) }
+    ensures { Gives call_view result (spec.call_of (declared_in file.now) taken (call_tree call) (Some (function_type (signature_tree sig.now)))) }
 {
     let span = call.span;
     if !is_callable(taken, call.args.len(), sig) {
         return Err(SemaFault::NotWellTyped { span, rule: 8 });
     }
-    match first_misfit(unit, call.args.as_slice(), sig.params.as_slice()) {
+    match first_misfit(file, call.args.as_slice(), sig.params.as_slice()) {
         None => {}
         Some(arg) => {
             return Err(SemaFault::NotWellTyped {
@@ -133,18 +135,18 @@ fn passed<'a>(
 #[tactic(auto, using(cx_snode::proofs::Judged::tells_then, cx_snode::proofs::Judged::gives_then))]
 pub fn typed_call<'a>(
     alloc: Global,
-    unit: &'a Unit,
+    file: &File<'a>,
     locals: &Locals,
     taken: bool,
     call: &Call,
 ) -> Result<TypedCall<'a>, SemaFault>
-    ensures { Gives call_view result (spec.typed_call (declared_of unit.now) (locals_of locals.now) taken (call_tree call.now)) }
+    ensures { Gives call_view result (spec.typed_call (declared_in file.now) (locals_of locals.now) taken (call_tree call.now)) }
 {
-    let args = typed_all(alloc, unit, locals, call.args.as_slice())?;
+    let args = typed_all(alloc, file, locals, call.args.as_slice())?;
     let span = call.span;
     let name = call.name;
-    match meaning_of(unit, name) {
-        Some(Meaning::Function(sig)) => passed(unit, taken, Call { span, name, args }, sig),
+    match file.meaning_of(name) {
+        Some(Meaning::Function(sig)) => passed(file, taken, Call { span, name, args }, sig),
         None | Some(Meaning::Typedef(_)) | Some(Meaning::Constant(_)) | Some(Meaning::Object(_)) =>
             Err(SemaFault::NotWellTyped { span, rule: 8 }),
     }

@@ -2,7 +2,7 @@ ghost use Rattle.std.specs.Prelude.{◌≡◌, map, option_map, IfOk};
 ghost use Rattle.cx_ctree.specs.Types.{type_tree};
 ghost use Rattle.cx_ctree.specs.Exprs.{expr_tree, effect_tree};
 ghost use Rattle.cx_scope.specs.Views.{locals_of};
-ghost use Rattle.cx_sname.specs.File.{declared_of};
+ghost use Rattle.cx_sfile.specs.Views.{declared_in};
 ghost use Rattle.cx_snode.specs.Judging.{Gives};
 ghost use Rattle.cx_snode.specs.Nodes.{value_of};
 ghost use Rattle.cx_seffect.specs.Effects as spec;
@@ -12,10 +12,11 @@ use crate::call::typed_call;
 use crate::kind::is_scalar_type;
 use crate::taken::{Taken, assigned, typed_rhs};
 use cx_base::{List, NoMemory, Span};
-use cx_ctree::{Binary, CType, Effect, Expr, ExprKind, Unit};
+use cx_ctree::{Binary, CType, Effect, Expr, ExprKind};
 use cx_ctype::{in_memory, is_movable, is_scalar, is_updatable, value_type};
 use cx_scope::Locals;
 use cx_sexpr::typed;
+use cx_sfile::File;
 use cx_snode::SemaFault;
 use std::alloc::Global;
 
@@ -49,8 +50,14 @@ fn set_node(span: Span, l: Expr, v: Taken) -> Result<Effect, SemaFault>
     Ok(Effect::Set(l, r, span))
 }
 
-fn update_node(unit: &Unit, span: Span, op: Binary, l: Expr, x: Expr) -> Result<Effect, SemaFault>
-    ensures { Gives effect_tree result (spec.update_node (declared_of unit.now) span op (expr_tree l) (expr_tree x)) }
+fn update_node(
+    file: &File<'_>,
+    span: Span,
+    op: Binary,
+    l: Expr,
+    x: Expr,
+) -> Result<Effect, SemaFault>
+    ensures { Gives effect_tree result (spec.update_node (declared_in file.now) span op (expr_tree l) (expr_tree x)) }
 {
     if !is_place(&l) {
         return Err(SemaFault::NotWellTyped { span, rule: 6 });
@@ -59,7 +66,7 @@ fn update_node(unit: &Unit, span: Span, op: Binary, l: Expr, x: Expr) -> Result<
     if !is_updatable(op, t, value_type(&x.ctype)) {
         return Err(SemaFault::NotWellTyped { span, rule: 16 });
     }
-    if !is_movable(unit, t) {
+    if !is_movable(file.unit, t) {
         return Err(SemaFault::NotWellTyped { span, rule: 19 });
     }
     Ok(Effect::Update(op, l, x, span))
@@ -113,13 +120,13 @@ fn cast_to_void(alloc: Global, span: Span, x: Expr) -> Result<Expr, NoMemory>
 }
 
 #[tactic(auto, using(cx_snode::proofs::Judged::tells_then, cx_snode::proofs::Judged::gives_then))]
-fn typed_alone(alloc: Global, unit: &Unit, locals: &Locals, x: &Expr) -> Result<Expr, SemaFault>
-    ensures { Gives expr_tree result (spec.typed_alone (declared_of unit.now) (locals_of locals.now) (expr_tree x.now)) }
+fn typed_alone(alloc: Global, file: &File<'_>, locals: &Locals, x: &Expr) -> Result<Expr, SemaFault>
+    ensures { Gives expr_tree result (spec.typed_alone (declared_in file.now) (locals_of locals.now) (expr_tree x.now)) }
 {
     match cast_away(x) {
-        None => alone(typed(alloc, unit, locals, x)?),
+        None => alone(typed(alloc, file, locals, x)?),
         Some(a) => {
-            let a = alone(typed(alloc, unit, locals, a)?)?;
+            let a = alone(typed(alloc, file, locals, a)?)?;
             Ok(cast_to_void(alloc, x.span, a)?)
         }
     }
@@ -129,29 +136,29 @@ fn typed_alone(alloc: Global, unit: &Unit, locals: &Locals, x: &Expr) -> Result<
 #[tactic(auto, using(cx_snode::proofs::Judged::tells_then, cx_snode::proofs::Judged::gives_then), unfolding(crate::specs::Effects::typed_effect))]
 pub fn typed_effect(
     alloc: Global,
-    unit: &Unit,
+    file: &File<'_>,
     locals: &Locals,
     e: &Effect,
 ) -> Result<Effect, SemaFault>
-    ensures { Gives effect_tree result (spec.typed_effect (declared_of unit.now) (locals_of locals.now) (effect_tree e.now)) }
+    ensures { Gives effect_tree result (spec.typed_effect (declared_in file.now) (locals_of locals.now) (effect_tree e.now)) }
 {
     match e {
         Effect::Set(l, r, span) => {
-            let l = typed(alloc, unit, locals, l)?;
-            let v = typed_rhs(alloc, unit, locals, r)?;
+            let l = typed(alloc, file, locals, l)?;
+            let v = typed_rhs(alloc, file, locals, r)?;
             set_node(*span, l, v)
         }
         Effect::Update(op, l, x, span) => {
-            let l = typed(alloc, unit, locals, l)?;
-            let x = typed(alloc, unit, locals, x)?;
-            update_node(unit, *span, *op, l, x)
+            let l = typed(alloc, file, locals, l)?;
+            let x = typed(alloc, file, locals, x)?;
+            update_node(file, *span, *op, l, x)
         }
         Effect::Call(call) => {
-            let d = typed_call(alloc, unit, locals, false, call)?;
+            let d = typed_call(alloc, file, locals, false, call)?;
             Ok(Effect::Call(d.call))
         }
         Effect::Value(x) => {
-            let x = typed_alone(alloc, unit, locals, x)?;
+            let x = typed_alone(alloc, file, locals, x)?;
             Ok(Effect::Value(x))
         }
     }
@@ -161,16 +168,16 @@ pub fn typed_effect(
 #[tactic(auto, using(cx_snode::proofs::Judged::behind_none, cx_snode::proofs::Judged::one_more, cx_snode::proofs::Judged::fault_of_next, crate::proofs::Lists::all_done))]
 pub fn typed_effects(
     alloc: Global,
-    unit: &Unit,
+    file: &File<'_>,
     locals: &Locals,
     effects: &[Effect],
 ) -> Result<List<Effect>, SemaFault>
-    ensures { Gives (map effect_tree) result (spec.typed_effects (declared_of unit.now) (locals_of locals.now) (map effect_tree effects.now)) }
+    ensures { Gives (map effect_tree) result (spec.typed_effects (declared_in file.now) (locals_of locals.now) (map effect_tree effects.now)) }
 {
     let mut done = List::new(alloc);
     let mut rest = effects;
     while let [e, after @ ..] = rest {
-        done.push(typed_effect(alloc, unit, locals, e)?)?;
+        done.push(typed_effect(alloc, file, locals, e)?)?;
         rest = after;
     }
     Ok(done)
@@ -180,13 +187,13 @@ pub fn typed_effects(
 #[tactic(auto, using(cx_snode::proofs::Judged::tells_then, cx_snode::proofs::Judged::gives_then))]
 pub fn typed_condition(
     alloc: Global,
-    unit: &Unit,
+    file: &File<'_>,
     locals: &Locals,
     x: &Expr,
 ) -> Result<Expr, SemaFault>
-    ensures { Gives expr_tree result (spec.typed_condition (declared_of unit.now) (locals_of locals.now) (expr_tree x.now)) }
+    ensures { Gives expr_tree result (spec.typed_condition (declared_in file.now) (locals_of locals.now) (expr_tree x.now)) }
 {
-    let x = typed(alloc, unit, locals, x)?;
+    let x = typed(alloc, file, locals, x)?;
     if is_scalar(value_type(&x.ctype)) {
         Ok(x)
     } else {
@@ -201,14 +208,14 @@ pub fn typed_condition(
 #[tactic(auto, using(cx_snode::proofs::Judged::tells_then, cx_snode::proofs::Judged::gives_then))]
 pub fn typed_optional(
     alloc: Global,
-    unit: &Unit,
+    file: &File<'_>,
     locals: &Locals,
     x: Option<&Expr>,
 ) -> Result<Option<Expr>, SemaFault>
-    ensures { Gives (option_map expr_tree) result (spec.typed_optional (declared_of unit.now) (locals_of locals.now) (option_map (λ x. expr_tree x.now) x.entry)) }
+    ensures { Gives (option_map expr_tree) result (spec.typed_optional (declared_in file.now) (locals_of locals.now) (option_map (λ x. expr_tree x.now) x.entry)) }
 {
     match x {
         None => Ok(None),
-        Some(x) => Ok(Some(typed_condition(alloc, unit, locals, x)?)),
+        Some(x) => Ok(Some(typed_condition(alloc, file, locals, x)?)),
     }
 }

@@ -2,7 +2,7 @@ ghost use Rattle.std.specs.Prelude.{◌≡◌, option_map, Ok};
 ghost use Rattle.cx_ctree.specs.Types.{type_tree};
 ghost use Rattle.cx_ctree.specs.Exprs.{expr_tree, rhs_tree};
 ghost use Rattle.cx_scope.specs.Views.{locals_of};
-ghost use Rattle.cx_sname.specs.File.{declared_of};
+ghost use Rattle.cx_sfile.specs.Views.{declared_in};
 ghost use Rattle.cx_snode.specs.Judging.{Gives};
 ghost use Rattle.cx_seffect.specs.Calls as spec;
 ghost use Rattle.cx_seffect.specs.Taken.{taken_view, call_view};
@@ -10,10 +10,11 @@ ghost use Rattle.cx_seffect.specs.Taken.{taken_view, call_view};
 use crate::call::{TypedCall, typed_call};
 use crate::kind::is_taken;
 use cx_base::Span;
-use cx_ctree::{CType, Expr, Rhs, Unit};
+use cx_ctree::{CType, Expr, Rhs};
 use cx_ctype::{cast_type, is_zero, value_type};
 use cx_scope::Locals;
 use cx_sexpr::typed;
+use cx_sfile::File;
 use cx_snode::SemaFault;
 use std::alloc::Global;
 
@@ -42,11 +43,11 @@ pub fn assigned(to: &CType, v: Taken) -> Result<Rhs, SemaFault>
     }
 }
 
-fn taken_value(unit: &Unit, x: Expr) -> Result<Taken, SemaFault>
-    ensures { Gives taken_view result (Ok (spec.taken_value (declared_of unit.now) (expr_tree x))) }
+fn taken_value(file: &File<'_>, x: Expr) -> Result<Taken, SemaFault>
+    ensures { Gives taken_view result (Ok (spec.taken_value (declared_in file.now) (expr_tree x))) }
 {
     let ctype = x.ctype.copy()?;
-    let zero = is_zero(unit, &x);
+    let zero = is_zero(file.unit, &x);
     let span = x.span;
     Ok(Taken {
         tree: Rhs::Value(x),
@@ -83,16 +84,21 @@ fn called(span: Span, d: TypedCall<'_>, cast: Option<&CType>) -> Result<Taken, S
 /// The right side of an assignment, an initialiser or a returned value with its types, or the first
 /// rule that it breaks.
 #[tactic(auto, using(cx_snode::proofs::Judged::tells_then, cx_snode::proofs::Judged::gives_then))]
-pub fn typed_rhs(alloc: Global, unit: &Unit, locals: &Locals, r: &Rhs) -> Result<Taken, SemaFault>
-    ensures { Gives taken_view result (spec.typed_rhs (declared_of unit.now) (locals_of locals.now) (rhs_tree r.now)) }
+pub fn typed_rhs(
+    alloc: Global,
+    file: &File<'_>,
+    locals: &Locals,
+    r: &Rhs,
+) -> Result<Taken, SemaFault>
+    ensures { Gives taken_view result (spec.typed_rhs (declared_in file.now) (locals_of locals.now) (rhs_tree r.now)) }
 {
     match r {
         Rhs::Value(x) => {
-            let x = typed(alloc, unit, locals, x)?;
-            taken_value(unit, x)
+            let x = typed(alloc, file, locals, x)?;
+            taken_value(file, x)
         }
         Rhs::Call(call, cast) => {
-            let d = typed_call(alloc, unit, locals, true, call)?;
+            let d = typed_call(alloc, file, locals, true, call)?;
             called(call.span, d, cast.as_ref())
         }
     }

@@ -4,5 +4,6 @@
 
 mod function;
 
+pub use cx_sfile::{File, file_of};
 pub use cx_snode::SemaFault;
-pub use function::resolve;
+pub use function::{resolve, resolve_in};

@@ -17,7 +17,7 @@ use Rattle.cx_snode.proofs.Judged.{parts_of, ok_same}
 use Rattle.cx_sexpr.specs.Typing.{typed, typed_kind, name_node, local_node, declared_node}
 use Rattle.cx_sexpr.specs.Kept.{IsTyped}
 
-judged_has : (s : Span) (rule : ℕ) (k : ExprKindTree) (o : Option TypeTree) (y : ExprTree) → judged s rule k o ≡ Ok y → (t : TypeTree) × (o ≡ Some t) × (node s t k ≡ y)
+pub judged_has : (s : Span) (rule : ℕ) (k : ExprKindTree) (o : Option TypeTree) (y : ExprTree) → judged s rule k o ≡ Ok y → (t : TypeTree) × (o ≡ Some t) × (node s t k ≡ y)
 judged_has s rule k None y h = absurd cc
 judged_has s rule k (Some t) y h = (t, refl, ok_same _ _ h)
 
@@ -37,7 +37,7 @@ named env ls s n None y h = meant env ls s n (meaning_of env n) y refl h
 named env ls s n (Some x) y h = found env ls s x (slice_get ls.types x) y refl h
 
 -- a conditional whose condition is scalar
-chosen : (s : Span) (b : Bool) (j : Judged ExprTree) (y : ExprTree) → (if b then j else breaks s 14) ≡ Ok y → (b ≡ true) × (j ≡ Ok y)
+pub chosen : (s : Span) (b : Bool) (j : Judged ExprTree) (y : ExprTree) → (if b then j else breaks s 14) ≡ Ok y → (b ≡ true) × (j ≡ Ok y)
 chosen s true j y h = (refl, h)
 chosen s false j y h = absurd cc
 
@@ -45,7 +45,7 @@ in_memory_has : (b : Bool) (t w : TypeTree) → if_true b t ≡ Some w → (b �
 in_memory_has true t w h = (refl, cc)
 in_memory_has false t w h = absurd cc
 
-pointed : (env : Declared) (s : Span) (x : ExprTree) (m : ℕ) (o : Option TypeTree) (y : ExprTree) → arrow_to env.known s x m o ≡ Ok y
+pub pointed : (env : Declared) (s : Span) (x : ExprTree) (m : ℕ) (o : Option TypeTree) (y : ExprTree) → arrow_to env.known s x m o ≡ Ok y
     → (w : TypeTree) × (o ≡ Some w) × ((t : TypeTree) × (placed_member env.known w m ≡ Some t) × (node s t (arrow x m) ≡ y))
 pointed env s x m None y h = absurd cc
 pointed env s x m (Some w) y h = (w, refl, judged_has s (member_rule env.known w m) (arrow x m) (placed_member env.known w m) y h)

@@ -5,6 +5,7 @@ ghost use Rattle.cx_cname.specs.Known.{known_of};
 ghost use Rattle.cx_ctype.specs.Accesses as access;
 ghost use Rattle.cx_ctype.specs.Operations as types;
 ghost use Rattle.cx_ctype.specs.ValueTypes.{value_tree};
+ghost use Rattle.cx_sfile.specs.Views.{declared_in};
 ghost use Rattle.cx_snode.specs.Judging.{Gives, typed_or};
 ghost use Rattle.cx_snode.specs.Nodes as spec;
 
@@ -15,8 +16,9 @@ use cx_cname::is_complete;
 use cx_ctree::{Binary, CType, Expr, ExprKind, Unary, Unit};
 use cx_ctype::{
     ValueType, arms_type, binary_type, cast_type, ctype_of, element, in_memory, is_scalar,
-    is_sized, is_zero, member_type, pointee, unary_type, unsigned_long, value_type,
+    is_sized, is_zero, pointee, unary_type, unsigned_long, value_type,
 };
+use cx_sfile::File;
 use std::alloc::Global;
 
 /// The type, or else this rule is broken here.
@@ -232,11 +234,11 @@ pub fn deref_node(alloc: Global, known: &Unit, span: Span, x: Expr) -> Result<Ex
     Ok(Expr { span, ctype, kind })
 }
 
-fn placed_member<'a>(known: &'a Unit, ctype: &CType, name: u32) -> Option<&'a CType>
-    ensures { option_map (λ t. type_tree t.now) result ≡ spec.placed_member (known_of known.now) (type_tree ctype.now) name }
+fn placed_member<'a>(file: &File<'a>, ctype: &CType, name: u32) -> Option<&'a CType>
+    ensures { option_map (λ t. type_tree t.now) result ≡ spec.placed_member (declared_in file.now).known (type_tree ctype.now) name }
 {
-    if is_sized(known, ctype) {
-        member_type(known, ctype, name)
+    if is_sized(file.unit, ctype) {
+        file.member_type(ctype, name)
     } else {
         None
     }
@@ -246,15 +248,15 @@ fn placed_member<'a>(known: &'a Unit, ctype: &CType, name: u32) -> Option<&'a CT
 #[tactic(auto, using(crate::proofs::Judged::tells_then, crate::proofs::Judged::gives_then))]
 pub fn member_node(
     alloc: Global,
-    known: &Unit,
+    file: &File<'_>,
     span: Span,
     x: Expr,
     name: u32,
 ) -> Result<Expr, SemaFault>
-    ensures { Gives expr_tree result (spec.member_node (known_of known.now) span (expr_tree x) name) }
+    ensures { Gives expr_tree result (spec.member_node (declared_in file.now).known span (expr_tree x) name) }
 {
-    let rule = member_rule(known, &x.ctype, name);
-    let ctype = type_or(span, rule, placed_member(known, &x.ctype, name))?;
+    let rule = member_rule(file, &x.ctype, name);
+    let ctype = type_or(span, rule, placed_member(file, &x.ctype, name))?;
     let kind = ExprKind::Member(Box::new(alloc, x)?, name);
     Ok(Expr { span, ctype, kind })
 }
@@ -263,18 +265,18 @@ pub fn member_node(
 #[tactic(auto, using(crate::proofs::Judged::tells_then, crate::proofs::Judged::gives_then))]
 pub fn arrow_node(
     alloc: Global,
-    known: &Unit,
+    file: &File<'_>,
     span: Span,
     x: Expr,
     name: u32,
 ) -> Result<Expr, SemaFault>
-    ensures { Gives expr_tree result (spec.arrow_node (known_of known.now) span (expr_tree x) name) }
+    ensures { Gives expr_tree result (spec.arrow_node (declared_in file.now).known span (expr_tree x) name) }
 {
-    let ctype = match target_of(known, &x) {
+    let ctype = match target_of(file.unit, &x) {
         Some(t) => type_or(
             span,
-            member_rule(known, t, name),
-            placed_member(known, t, name),
+            member_rule(file, t, name),
+            placed_member(file, t, name),
         )?,
         None => return Err(SemaFault::NotWellTyped { span, rule: 3 }),
     };

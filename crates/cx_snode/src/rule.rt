@@ -3,11 +3,13 @@ ghost use Rattle.cx_ctree.specs.Types.{type_tree};
 ghost use Rattle.cx_cname.specs.Known.{known_of};
 ghost use Rattle.cx_ctype.specs.ValueTypes.{value_tree};
 ghost use Rattle.cx_ctype.specs.Rules as spec;
+ghost use Rattle.cx_sfile.specs.Views.{declared_in};
 ghost use Rattle.cx_snode.specs.Nodes as nodes;
 
 use cx_cname::is_complete;
 use cx_ctree::{Binary, CType, Unary, Unit};
-use cx_ctype::{ValueType, element, member_type};
+use cx_ctype::{ValueType, element};
+use cx_sfile::File;
 
 /// The rule that an operator breaks which does not take its operand.
 pub fn unary_rule(op: Unary) -> u8
@@ -59,10 +61,10 @@ pub fn size_rule(known: &Unit, ctype: &CType) -> u8
 
 /// The rule that is broken where the member of this name has no place.
 #[tactic(auto, using(crate::proofs::Optional::is_some_map))]
-pub fn member_rule(known: &Unit, ctype: &CType, name: u32) -> u8
-    ensures { result ≡ nodes.member_rule (known_of known.now) (type_tree ctype.now) name }
+pub fn member_rule(file: &File<'_>, ctype: &CType, name: u32) -> u8
+    ensures { result ≡ nodes.member_rule (declared_in file.now).known (type_tree ctype.now) name }
 {
-    if member_type(known, ctype, name).is_some() {
+    if file.member_type(ctype, name).is_some() {
         19
     } else {
         4

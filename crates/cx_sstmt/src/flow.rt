@@ -3,7 +3,7 @@ ghost use Rattle.cx_ctree.specs.Types.{type_tree};
 ghost use Rattle.cx_ctree.specs.Exprs.{expr_tree, rhs_tree, effect_tree};
 ghost use Rattle.cx_ctree.specs.Stmts.{stmt_tree, break as break_kind, continue as continue_kind};
 ghost use Rattle.cx_scope.specs.Views.{locals_of};
-ghost use Rattle.cx_sname.specs.File.{declared_of};
+ghost use Rattle.cx_sfile.specs.Views.{declared_in};
 ghost use Rattle.cx_snode.specs.Judging.{Gives};
 ghost use Rattle.cx_seffect.specs.Taken.{taken_view};
 ghost use Rattle.cx_sstmt.specs.Stmts as spec;
@@ -11,10 +11,11 @@ ghost use Rattle.cx_sstmt.specs.Around.{Leaves};
 
 use crate::make::of_effect;
 use cx_base::{CInt, Span};
-use cx_ctree::{CType, Effect, Expr, Rhs, Stmt, StmtKind, Unit};
+use cx_ctree::{CType, Effect, Expr, Rhs, Stmt, StmtKind};
 use cx_ctype::{is_int, number_type, promoted, value_type};
 use cx_scope::Locals;
 use cx_seffect::{Taken, assigned, is_void, typed_effect, typed_rhs};
+use cx_sfile::File;
 use cx_snode::SemaFault;
 use std::alloc::Global;
 
@@ -33,13 +34,13 @@ fn returned(span: Span, of: &CType, v: Taken) -> Result<Stmt, SemaFault>
 #[tactic(auto, using(cx_snode::proofs::Judged::tells_then, cx_snode::proofs::Judged::gives_then))]
 fn returning(
     alloc: Global,
-    unit: &Unit,
+    file: &File<'_>,
     locals: &Locals,
     span: Span,
     of: &CType,
     r: Option<&Rhs>,
 ) -> Result<Stmt, SemaFault>
-    ensures { Gives stmt_tree result (spec.typed_return (declared_of unit.now) (locals_of locals.now) span (type_tree of.now) (option_map (λ r. rhs_tree r.now) r.entry)) }
+    ensures { Gives stmt_tree result (spec.typed_return (declared_in file.now) (locals_of locals.now) span (type_tree of.now) (option_map (λ r. rhs_tree r.now) r.entry)) }
 {
     match r {
         None => {
@@ -51,7 +52,7 @@ fn returning(
             }
         }
         Some(r) => {
-            let v = typed_rhs(alloc, unit, locals, r)?;
+            let v = typed_rhs(alloc, file, locals, r)?;
             returned(span, of, v)
         }
     }
@@ -61,15 +62,15 @@ fn returning(
 #[tactic(auto, using(crate::proofs::Steps::stays))]
 pub fn typed_return(
     alloc: Global,
-    unit: &Unit,
+    file: &File<'_>,
     locals: &Locals,
     span: Span,
     of: &CType,
     r: Option<&Rhs>,
 ) -> Result<Stmt, SemaFault>
-    ensures { Leaves stmt_tree result (locals_of locals.now) (spec.staying (locals_of locals.now) (spec.typed_return (declared_of unit.now) (locals_of locals.now) span (type_tree of.now) (option_map (λ r. rhs_tree r.now) r.entry))) }
+    ensures { Leaves stmt_tree result (locals_of locals.now) (spec.staying (locals_of locals.now) (spec.typed_return (declared_in file.now) (locals_of locals.now) span (type_tree of.now) (option_map (λ r. rhs_tree r.now) r.entry))) }
 {
-    returning(alloc, unit, locals, span, of, r)
+    returning(alloc, file, locals, span, of, r)
 }
 
 /// A `break` (C11 6.8.6.3), where it is told whether it may stand there.
@@ -100,14 +101,14 @@ pub fn typed_continue(locals: &Locals, span: Span, may: bool) -> Result<Stmt, Se
 #[tactic(auto, using(cx_snode::proofs::Judged::tells_then, cx_snode::proofs::Judged::gives_then))]
 pub fn typed_alone(
     alloc: Global,
-    unit: &Unit,
+    file: &File<'_>,
     locals: &Locals,
     span: Span,
     e: &Effect,
 ) -> Result<Stmt, SemaFault>
-    ensures { Leaves stmt_tree result (locals_of locals.now) (spec.staying (locals_of locals.now) (spec.typed_alone (declared_of unit.now) (locals_of locals.now) span (effect_tree e.now))) }
+    ensures { Leaves stmt_tree result (locals_of locals.now) (spec.staying (locals_of locals.now) (spec.typed_alone (declared_in file.now) (locals_of locals.now) span (effect_tree e.now))) }
 {
-    let e = typed_effect(alloc, unit, locals, e)?;
+    let e = typed_effect(alloc, file, locals, e)?;
     Ok(of_effect(span, e))
 }
 

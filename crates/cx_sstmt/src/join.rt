@@ -2,16 +2,17 @@ ghost use Rattle.std.specs.Prelude.{map, option_map};
 ghost use Rattle.cx_ctree.specs.Exprs.{expr_tree, effect_tree};
 ghost use Rattle.cx_ctree.specs.Stmts.{stmt, block, if_alone as if_kind, if_else as else_kind, while as while_kind, do_while as do_kind, for as for_kind, switch as switch_kind, stmt_tree, stmt_trees, group_trees};
 ghost use Rattle.cx_scope.specs.Views.{locals_of};
-ghost use Rattle.cx_sname.specs.File.{declared_of};
+ghost use Rattle.cx_sfile.specs.Views.{declared_in};
 ghost use Rattle.cx_snode.specs.Judging.{Gives};
 ghost use Rattle.cx_sstmt.specs.Stmts as spec;
 ghost use Rattle.cx_sstmt.specs.Joined.{Makes, head_view};
 
 use crate::make::{do_loop, for_loop, if_alone, if_else, of_block, of_switch, while_loop};
 use cx_base::{List, Span};
-use cx_ctree::{Effect, Expr, Group, Stmt, Unit};
+use cx_ctree::{Effect, Expr, Group, Stmt};
 use cx_scope::Locals;
 use cx_seffect::{typed_effects, typed_optional};
+use cx_sfile::File;
 use cx_snode::SemaFault;
 use std::alloc::Global;
 
@@ -93,16 +94,16 @@ pub fn do_of(
 #[tactic(auto, using(cx_snode::proofs::Judged::tells_then, cx_snode::proofs::Judged::gives_then))]
 pub fn head_of(
     alloc: Global,
-    unit: &Unit,
+    file: &File<'_>,
     locals: &Locals,
     init: List<Stmt>,
     c: Option<&Expr>,
     steps: &[Effect],
 ) -> Result<Head, SemaFault>
-    ensures { Gives head_view result (spec.for_head (declared_of unit.now) (locals_of locals.now) (stmt_trees init) (option_map (λ x. expr_tree x.now) c.entry) (map effect_tree steps.now)) }
+    ensures { Gives head_view result (spec.for_head (declared_in file.now) (locals_of locals.now) (stmt_trees init) (option_map (λ x. expr_tree x.now) c.entry) (map effect_tree steps.now)) }
 {
-    let c = typed_optional(alloc, unit, locals, c)?;
-    let steps = typed_effects(alloc, unit, locals, steps)?;
+    let c = typed_optional(alloc, file, locals, c)?;
+    let steps = typed_effects(alloc, file, locals, steps)?;
     Ok(Head { init, c, steps })
 }
 

@@ -1,15 +1,18 @@
-ghost use Rattle.std.specs.Prelude.{◌≡◌};
+ghost use Rattle.std.specs.Prelude.{◌≡◌, Ok};
 ghost use Rattle.cx_ctree.specs.Exprs.{expr_tree, span_of};
 ghost use Rattle.cx_cconst.specs.Constants.{constant_in};
-ghost use Rattle.cx_sname.specs.File.{declared_of};
+ghost use Rattle.cx_sfile.specs.Views.{declared_in};
+ghost use Rattle.cx_scope.specs.Locals as scope;
+ghost use Rattle.cx_sexpr.specs.Typing as sexpr;
 ghost use Rattle.cx_sstmt.specs.Labels as spec;
 ghost use Rattle.cx_sstmt.specs.Around.{seen_view, Sees, Labels, label_trees};
 
 use cx_base::{CInt, List, Span, wrap};
 use cx_cconst::constant_value;
-use cx_ctree::{Expr, Unit};
+use cx_ctree::Expr;
 use cx_scope::Locals;
 use cx_sexpr::typed;
+use cx_sfile::File;
 use cx_snode::SemaFault;
 use indexmap::IndexSet;
 use std::alloc::Global;
@@ -30,11 +33,27 @@ pub fn none_seen(alloc: Global) -> Seen
     }
 }
 
-fn see_case(unit: &Unit, t: CInt, seen: &mut Seen, x: &Expr) -> Result<(), SemaFault>
-    ensures { Sees result (seen_view seen.new) (spec.case_seen (span_of (expr_tree x.now)) t (seen_view seen.old) (constant_in (declared_of unit.now).known (expr_tree x.now))) }
+/// The value of the constant expression of a case, of which `value` is the same with its types.
+fn case_value(file: &File<'_>, x: &Expr, value: &Expr) -> Option<i128>
+    requires { sexpr.typed (declared_in file.now) scope.no_locals (expr_tree x.now) ≡ Ok (expr_tree value.now) }
+    ensures { result ≡ constant_in (declared_in file.now).known (expr_tree x.now) }
+{
+    constant_value(file.unit, value)
+}
+
+/// The case with this expression, of which `value` is the same with its types.
+fn see_case(
+    file: &File<'_>,
+    t: CInt,
+    seen: &mut Seen,
+    x: &Expr,
+    value: &Expr,
+) -> Result<(), SemaFault>
+    requires { sexpr.typed (declared_in file.now) scope.no_locals (expr_tree x.now) ≡ Ok (expr_tree value.now) }
+    ensures { Sees result (seen_view seen.new) (spec.case_seen (span_of (expr_tree x.now)) t (seen_view seen.old) (constant_in (declared_in file.now).known (expr_tree x.now))) }
 {
     let span = x.span;
-    let Some(v) = constant_value(unit, x) else {
+    let Some(v) = case_value(file, x, value) else {
         return Err(SemaFault::NotWellTyped { span, rule: 10 });
     };
     let new = seen.values.insert(wrap(t, v))?;
@@ -59,13 +78,13 @@ fn see_default(span: Span, seen: &mut Seen) -> Result<(), SemaFault>
 #[tactic(auto, using(crate::proofs::Steps::no_labels, crate::proofs::Steps::default_next, crate::proofs::Steps::case_next, crate::proofs::Steps::default_breaks, crate::proofs::Steps::value_breaks, crate::proofs::Steps::case_breaks))]
 pub fn typed_labels(
     alloc: Global,
-    unit: &Unit,
+    file: &File<'_>,
     t: CInt,
     span: Span,
     seen: &mut Seen,
     labels: &[Option<Expr>],
 ) -> Result<List<Option<Expr>>, SemaFault>
-    ensures { Labels result (seen_view seen.new) (spec.typed_labels (declared_of unit.now) t span (seen_view seen.old) (label_trees labels.now)) }
+    ensures { Labels result (seen_view seen.new) (spec.typed_labels (declared_in file.now) t span (seen_view seen.old) (label_trees labels.now)) }
 {
     let no_locals = Locals::new(alloc);
     let mut done = List::new(alloc);
@@ -77,8 +96,8 @@ pub fn typed_labels(
                 done.push(None)?;
             }
             Some(x) => {
-                let value = typed(alloc, unit, &no_locals, x)?;
-                see_case(unit, t, seen, x)?;
+                let value = typed(alloc, file, &no_locals, x)?;
+                see_case(file, t, seen, x, &value)?;
                 done.push(Some(value))?;
             }
         }

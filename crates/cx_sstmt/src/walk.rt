@@ -1,7 +1,7 @@
 ghost use Rattle.cx_ctree.specs.Exprs.{expr_tree};
 ghost use Rattle.cx_ctree.specs.Stmts.{block, if_alone as if_kind, while as while_kind, do_while as do_kind, switch as switch_kind, stmt_tree, stmt_trees, group_trees};
 ghost use Rattle.cx_scope.specs.Views.{locals_of};
-ghost use Rattle.cx_sname.specs.File.{declared_of};
+ghost use Rattle.cx_sfile.specs.Views.{declared_in};
 ghost use Rattle.cx_scope.specs.Locals.{opened};
 ghost use Rattle.cx_sstmt.specs.Labels as labels;
 ghost use Rattle.cx_sstmt.specs.Stmts as spec;
@@ -13,10 +13,11 @@ use crate::join::{block_of, do_of, else_of, for_of, head_of, if_of, switch_of, w
 use crate::label::{none_seen, typed_labels};
 use crate::variable::typed_variable;
 use cx_base::{CInt, List, Span};
-use cx_ctree::{Expr, Group, Stmt, StmtKind, Unit};
+use cx_ctree::{Expr, Group, Stmt, StmtKind};
 use cx_scope::Locals;
 use cx_seffect::typed_condition;
 use cx_sexpr::typed;
+use cx_sfile::File;
 use cx_snode::SemaFault;
 use std::alloc::Global;
 
@@ -25,52 +26,52 @@ use std::alloc::Global;
 #[tactic(auto, using(cx_snode::proofs::Judged::tells_then, cx_snode::proofs::Judged::gives_then))]
 pub fn typed_stmt(
     alloc: Global,
-    unit: &Unit,
+    file: &File<'_>,
     around: Around<'_>,
     locals: &mut Locals,
     s: &Stmt,
 ) -> Result<Stmt, SemaFault>
-    ensures { Leaves stmt_tree result (locals_of locals.new) (spec.typed_stmt (declared_of unit.now) (around_view around.entry) (locals_of locals.old) (stmt_tree s.now)) }
+    ensures { Leaves stmt_tree result (locals_of locals.new) (spec.typed_stmt (declared_in file.now) (around_view around.entry) (locals_of locals.old) (stmt_tree s.now)) }
 {
     let span = s.span;
     match &s.kind {
-        StmtKind::Block(ss) => typed_block(alloc, unit, around, locals, span, ss.as_slice()),
+        StmtKind::Block(ss) => typed_block(alloc, file, around, locals, span, ss.as_slice()),
         StmtKind::Empty => {
             let kind = StmtKind::Empty;
             Ok(Stmt { span, kind })
         }
-        StmtKind::Effect(e) => typed_alone(alloc, unit, locals, span, e),
+        StmtKind::Effect(e) => typed_alone(alloc, file, locals, span, e),
         StmtKind::Declare(n, t, r) => {
-            typed_variable(alloc, unit, locals, span, *n, t, r.as_ref())
+            typed_variable(alloc, file, locals, span, *n, t, r.as_ref())
         }
-        StmtKind::If(c, a, None) => typed_if(alloc, unit, around, locals, span, a, c),
+        StmtKind::If(c, a, None) => typed_if(alloc, file, around, locals, span, a, c),
         StmtKind::If(c, a, Some(b)) => {
-            let c = typed_condition(alloc, unit, locals, c)?;
-            let a = typed_inner(alloc, unit, around, locals, a)?;
+            let c = typed_condition(alloc, file, locals, c)?;
+            let a = typed_inner(alloc, file, around, locals, a)?;
             else_of(
                 alloc,
                 span,
                 c,
                 a,
-                typed_inner(alloc, unit, around, locals, b),
+                typed_inner(alloc, file, around, locals, b),
             )
         }
-        StmtKind::While(c, a) => typed_while(alloc, unit, around, locals, span, a, c),
-        StmtKind::DoWhile(a, c) => typed_do(alloc, unit, around, locals, span, a, c),
+        StmtKind::While(c, a) => typed_while(alloc, file, around, locals, span, a, c),
+        StmtKind::DoWhile(a, c) => typed_do(alloc, file, around, locals, span, a, c),
         StmtKind::For(init, c, steps, a) => {
             locals.open()?;
-            let init = typed_stmts(alloc, unit, around, locals, init.as_slice())?;
-            let head = head_of(alloc, unit, locals, init, c.as_ref(), steps.as_slice())?;
-            let a = typed_inner(alloc, unit, in_loop(around), locals, a);
+            let init = typed_stmts(alloc, file, around, locals, init.as_slice())?;
+            let head = head_of(alloc, file, locals, init, c.as_ref(), steps.as_slice())?;
+            let a = typed_inner(alloc, file, in_loop(around), locals, a);
             locals.close();
             for_of(alloc, span, head, a)
         }
         StmtKind::Switch(v, gs) => {
-            typed_switch(alloc, unit, around, locals, span, gs.as_slice(), v)
+            typed_switch(alloc, file, around, locals, span, gs.as_slice(), v)
         }
         StmtKind::Break => typed_break(locals, span, around.breakable),
         StmtKind::Continue => typed_continue(locals, span, around.looped),
-        StmtKind::Return(r) => typed_return(alloc, unit, locals, span, around.result, r.as_ref()),
+        StmtKind::Return(r) => typed_return(alloc, file, locals, span, around.result, r.as_ref()),
     }
 }
 
@@ -79,16 +80,16 @@ pub fn typed_stmt(
 #[tactic(auto, using(cx_snode::proofs::Judged::tells_then, cx_snode::proofs::Judged::gives_then))]
 fn typed_block(
     alloc: Global,
-    unit: &Unit,
+    file: &File<'_>,
     around: Around<'_>,
     locals: &mut Locals,
     span: Span,
     stmts: &[Stmt],
 ) -> Result<Stmt, SemaFault>
-    ensures { Leaves stmt_tree result (locals_of locals.new) (spec.typed_stmt_kind (declared_of unit.now) (around_view around.entry) (locals_of locals.old) span (block (stmt_trees stmts.now))) }
+    ensures { Leaves stmt_tree result (locals_of locals.new) (spec.typed_stmt_kind (declared_in file.now) (around_view around.entry) (locals_of locals.old) span (block (stmt_trees stmts.now))) }
 {
     locals.open()?;
-    let ss = typed_stmts(alloc, unit, around, locals, stmts);
+    let ss = typed_stmts(alloc, file, around, locals, stmts);
     locals.close();
     block_of(span, ss)
 }
@@ -98,17 +99,17 @@ fn typed_block(
 #[tactic(auto, using(cx_snode::proofs::Judged::tells_then, cx_snode::proofs::Judged::gives_then))]
 fn typed_if(
     alloc: Global,
-    unit: &Unit,
+    file: &File<'_>,
     around: Around<'_>,
     locals: &mut Locals,
     span: Span,
     a: &Stmt,
     c: &Expr,
 ) -> Result<Stmt, SemaFault>
-    ensures { Leaves stmt_tree result (locals_of locals.new) (spec.typed_stmt_kind (declared_of unit.now) (around_view around.entry) (locals_of locals.old) span (if_kind (expr_tree c.now) (stmt_tree a.now))) }
+    ensures { Leaves stmt_tree result (locals_of locals.new) (spec.typed_stmt_kind (declared_in file.now) (around_view around.entry) (locals_of locals.old) span (if_kind (expr_tree c.now) (stmt_tree a.now))) }
 {
-    let c = typed_condition(alloc, unit, locals, c)?;
-    let a = typed_inner(alloc, unit, around, locals, a);
+    let c = typed_condition(alloc, file, locals, c)?;
+    let a = typed_inner(alloc, file, around, locals, a);
     if_of(alloc, span, c, a)
 }
 
@@ -117,17 +118,17 @@ fn typed_if(
 #[tactic(auto, using(cx_snode::proofs::Judged::tells_then, cx_snode::proofs::Judged::gives_then))]
 fn typed_while(
     alloc: Global,
-    unit: &Unit,
+    file: &File<'_>,
     around: Around<'_>,
     locals: &mut Locals,
     span: Span,
     a: &Stmt,
     c: &Expr,
 ) -> Result<Stmt, SemaFault>
-    ensures { Leaves stmt_tree result (locals_of locals.new) (spec.typed_stmt_kind (declared_of unit.now) (around_view around.entry) (locals_of locals.old) span (while_kind (expr_tree c.now) (stmt_tree a.now))) }
+    ensures { Leaves stmt_tree result (locals_of locals.new) (spec.typed_stmt_kind (declared_in file.now) (around_view around.entry) (locals_of locals.old) span (while_kind (expr_tree c.now) (stmt_tree a.now))) }
 {
-    let c = typed_condition(alloc, unit, locals, c)?;
-    let a = typed_inner(alloc, unit, in_loop(around), locals, a);
+    let c = typed_condition(alloc, file, locals, c)?;
+    let a = typed_inner(alloc, file, in_loop(around), locals, a);
     while_of(alloc, span, c, a)
 }
 
@@ -136,17 +137,17 @@ fn typed_while(
 #[tactic(auto, using(cx_snode::proofs::Judged::tells_then, cx_snode::proofs::Judged::gives_then))]
 fn typed_do(
     alloc: Global,
-    unit: &Unit,
+    file: &File<'_>,
     around: Around<'_>,
     locals: &mut Locals,
     span: Span,
     a: &Stmt,
     c: &Expr,
 ) -> Result<Stmt, SemaFault>
-    ensures { Leaves stmt_tree result (locals_of locals.new) (spec.typed_stmt_kind (declared_of unit.now) (around_view around.entry) (locals_of locals.old) span (do_kind (stmt_tree a.now) (expr_tree c.now))) }
+    ensures { Leaves stmt_tree result (locals_of locals.new) (spec.typed_stmt_kind (declared_in file.now) (around_view around.entry) (locals_of locals.old) span (do_kind (stmt_tree a.now) (expr_tree c.now))) }
 {
-    let a = typed_inner(alloc, unit, in_loop(around), locals, a)?;
-    let c = typed_condition(alloc, unit, locals, c);
+    let a = typed_inner(alloc, file, in_loop(around), locals, a)?;
+    let c = typed_condition(alloc, file, locals, c);
     do_of(alloc, span, a, c)
 }
 
@@ -155,18 +156,18 @@ fn typed_do(
 #[tactic(auto, using(cx_snode::proofs::Judged::tells_then, cx_snode::proofs::Judged::gives_then))]
 fn typed_switch(
     alloc: Global,
-    unit: &Unit,
+    file: &File<'_>,
     around: Around<'_>,
     locals: &mut Locals,
     span: Span,
     groups: &[Group],
     v: &Expr,
 ) -> Result<Stmt, SemaFault>
-    ensures { Leaves stmt_tree result (locals_of locals.new) (spec.typed_stmt_kind (declared_of unit.now) (around_view around.entry) (locals_of locals.old) span (switch_kind (expr_tree v.now) (group_trees groups.now))) }
+    ensures { Leaves stmt_tree result (locals_of locals.new) (spec.typed_stmt_kind (declared_in file.now) (around_view around.entry) (locals_of locals.old) span (switch_kind (expr_tree v.now) (group_trees groups.now))) }
 {
-    let v = switched(typed(alloc, unit, locals, v)?)?;
+    let v = switched(typed(alloc, file, locals, v)?)?;
     let t = label_type(&v);
-    let gs = typed_body(alloc, unit, in_switch(around), locals, t, span, groups);
+    let gs = typed_body(alloc, file, in_switch(around), locals, t, span, groups);
     switch_of(span, v, gs)
 }
 
@@ -174,17 +175,17 @@ fn typed_switch(
 #[cycle(statements)]
 fn typed_body(
     alloc: Global,
-    unit: &Unit,
+    file: &File<'_>,
     around: Around<'_>,
     locals: &mut Locals,
     t: CInt,
     span: Span,
     groups: &[Group],
 ) -> Result<List<Group>, SemaFault>
-    ensures { Leaves group_trees result (locals_of locals.new) (spec.leaving (spec.typed_groups (declared_of unit.now) (around_view around.entry) (opened (locals_of locals.old)) t span labels.none_seen (group_trees groups.now))) }
+    ensures { Leaves group_trees result (locals_of locals.new) (spec.leaving (spec.typed_groups (declared_in file.now) (around_view around.entry) (opened (locals_of locals.old)) t span labels.none_seen (group_trees groups.now))) }
 {
     locals.open()?;
-    let gs = typed_groups(alloc, unit, around, locals, t, span, groups);
+    let gs = typed_groups(alloc, file, around, locals, t, span, groups);
     locals.close();
     gs
 }
@@ -194,15 +195,15 @@ fn typed_body(
 #[tactic(auto, using(cx_snode::proofs::Judged::tells_then, cx_snode::proofs::Judged::gives_then))]
 fn typed_inner(
     alloc: Global,
-    unit: &Unit,
+    file: &File<'_>,
     around: Around<'_>,
     locals: &mut Locals,
     s: &Stmt,
 ) -> Result<Stmt, SemaFault>
-    ensures { Leaves stmt_tree result (locals_of locals.new) (spec.leaving (spec.typed_stmt (declared_of unit.now) (around_view around.entry) (opened (locals_of locals.old)) (stmt_tree s.now))) }
+    ensures { Leaves stmt_tree result (locals_of locals.new) (spec.leaving (spec.typed_stmt (declared_in file.now) (around_view around.entry) (opened (locals_of locals.old)) (stmt_tree s.now))) }
 {
     locals.open()?;
-    let s = typed_stmt(alloc, unit, around, locals, s);
+    let s = typed_stmt(alloc, file, around, locals, s);
     locals.close();
     s
 }
@@ -212,16 +213,16 @@ fn typed_inner(
 #[tactic(auto, using(crate::proofs::Steps::no_stmts, crate::proofs::Steps::stmts_end, crate::proofs::Steps::stmt_next, crate::proofs::Steps::stmt_breaks))]
 pub fn typed_stmts(
     alloc: Global,
-    unit: &Unit,
+    file: &File<'_>,
     around: Around<'_>,
     locals: &mut Locals,
     stmts: &[Stmt],
 ) -> Result<List<Stmt>, SemaFault>
-    ensures { Leaves stmt_trees result (locals_of locals.new) (spec.typed_stmts (declared_of unit.now) (around_view around.entry) (locals_of locals.old) (stmt_trees stmts.now)) }
+    ensures { Leaves stmt_trees result (locals_of locals.new) (spec.typed_stmts (declared_in file.now) (around_view around.entry) (locals_of locals.old) (stmt_trees stmts.now)) }
 {
     let mut done = List::new(alloc);
     for s in stmts {
-        let s = typed_stmt(alloc, unit, around, locals, s)?;
+        let s = typed_stmt(alloc, file, around, locals, s)?;
         done.push(s)?;
     }
     Ok(done)
@@ -232,20 +233,20 @@ pub fn typed_stmts(
 #[tactic(auto, using(crate::proofs::Steps::no_groups, crate::proofs::Steps::groups_end, crate::proofs::Steps::group_next, crate::proofs::Steps::labels_break, crate::proofs::Steps::body_breaks))]
 fn typed_groups(
     alloc: Global,
-    unit: &Unit,
+    file: &File<'_>,
     around: Around<'_>,
     locals: &mut Locals,
     t: CInt,
     span: Span,
     groups: &[Group],
 ) -> Result<List<Group>, SemaFault>
-    ensures { Leaves group_trees result (locals_of locals.new) (spec.typed_groups (declared_of unit.now) (around_view around.entry) (locals_of locals.old) t span labels.none_seen (group_trees groups.now)) }
+    ensures { Leaves group_trees result (locals_of locals.new) (spec.typed_groups (declared_in file.now) (around_view around.entry) (locals_of locals.old) t span labels.none_seen (group_trees groups.now)) }
 {
     let mut seen = none_seen(alloc);
     let mut done = List::new(alloc);
     for g in groups {
-        let labels = typed_labels(alloc, unit, t, span, &mut seen, g.labels.as_slice())?;
-        let body = match typed_stmts(alloc, unit, around, locals, g.body.as_slice()) {
+        let labels = typed_labels(alloc, file, t, span, &mut seen, g.labels.as_slice())?;
+        let body = match typed_stmts(alloc, file, around, locals, g.body.as_slice()) {
             Ok(body) => body,
             Err(e) => return Err(e),
         };

@@ -5,7 +5,7 @@ use Rattle.cx_ctree.specs.Stmts.{StmtTree, GroupTree, stmt, block, if_alone, if_
 use Rattle.cx_ctree.specs.declared.stmt.Group.{Group, roll-Group, out-Group}
 use Rattle.cx_scope.specs.Views.{locals_of}
 use Rattle.cx_scope.specs.Locals.{Locals, opened}
-use Rattle.cx_sname.specs.File.{declared_of}
+use Rattle.cx_sfile.specs.Views.{declared_in}
 use Rattle.cx_base.specs.declared.number.CInt.{CInt}
 use Rattle.cx_snode.specs.Judging.{Tells, ◌>>=◌}
 use Rattle.cx_seffect.specs.Effects.{typed_condition, typed_effects, typed_optional}
@@ -21,27 +21,27 @@ use Rattle.cx_sstmt.proofs.walk.«+statements».Goals as goal
 
 pub typed_stmts-loop-s-preserved : goal.typed_stmts-loop-s-preserved
 typed_stmts-loop-s-preserved t c =
-    let env = declared_of c.args.unit.now in
+    let env = declared_in c.args.file.now in
     let around = around_view c.args.around in
     stmt_turn env around (locals_of c.loop-s.locals) (locals_of c.typed_stmt.new.locals) c.loop-s.done c.push.new.self c.args.stmts.now c.loop-s.s-index (typed_stmts env around (locals_of c.args.locals.now) (stmt_trees c.args.stmts.now))
     c.s-item.result c.in_ok-s.s c.loop-s-test.true c.s-item.is c.in_ok-s.ensures c.in_ok-push.ensures.ok c.loop-s.invariant
 
 pub typed_stmts-returns : goal.typed_stmts-returns
 typed_stmts-returns t c =
-    let env = declared_of c.args.unit.now in
+    let env = declared_in c.args.file.now in
     let around = around_view c.args.around in
     stmts_over env around (locals_of c.loop-s.locals) c.loop-s.done c.args.stmts.now c.loop-s.s-index (typed_stmts env around (locals_of c.args.locals.now) (stmt_trees c.args.stmts.now)) c.loop-s-test.false c.loop-s.invariant
 
 pub typed_groups-returns : goal.typed_groups-returns
 typed_groups-returns t c =
-    let env = declared_of c.args.unit.now in
+    let env = declared_in c.args.file.now in
     let around = around_view c.args.around in
     groups_over env around (locals_of c.loop-g.locals) c.args.t c.args.span (seen_view c.loop-g.seen) c.loop-g.done c.args.groups.now c.loop-g.g-index
     (typed_groups env around (locals_of c.args.locals.now) c.args.t c.args.span none_seen (group_trees c.args.groups.now)) c.loop-g-test.false c.loop-g.invariant
 
 pub typed_inner-returns : goal.typed_inner-returns
 typed_inner-returns t c =
-    let env = declared_of c.args.unit.now in
+    let env = declared_in c.args.file.now in
     let around = around_view c.args.around in
     let s = stmt_tree c.args.s.now in
     leaves_closed stmt_tree c.typed_stmt-s.result (locals_of c.typed_stmt-s.new.locals) (locals_of c.close.new.self) (typed_stmt env around (opened (locals_of c.args.locals.now)) s) c.close.ensures
@@ -49,7 +49,7 @@ typed_inner-returns t c =
 
 pub typed_body-returns : goal.typed_body-returns
 typed_body-returns t c =
-    let env = declared_of c.args.unit.now in
+    let env = declared_in c.args.file.now in
     let around = around_view c.args.around in
     let gs = group_trees c.args.groups.now in
     leaves_closed group_trees c.typed_groups-gs.result (locals_of c.typed_groups-gs.new.locals) (locals_of c.close.new.self) (typed_groups env around (opened (locals_of c.args.locals.now)) c.args.t c.args.span none_seen gs) c.close.ensures
@@ -57,7 +57,7 @@ typed_body-returns t c =
 
 pub typed_block-returns : goal.typed_block-returns
 typed_block-returns t c =
-    let env = declared_of c.args.unit.now in
+    let env = declared_in c.args.file.now in
     let around = around_view c.args.around in
     let ss = stmt_trees c.args.stmts.now in
     let ls = locals_of c.args.locals.now in
@@ -67,7 +67,7 @@ typed_block-returns t c =
 
 pub typed_if-returns : goal.typed_if-returns
 typed_if-returns t c =
-    let env = declared_of c.args.unit.now in
+    let env = declared_in c.args.file.now in
     let around = around_view c.args.around in
     let ls = locals_of c.args.locals.now in
     let a = stmt_tree c.args.a.now in
@@ -78,7 +78,7 @@ typed_if-returns t c =
 
 pub typed_while-returns : goal.typed_while-returns
 typed_while-returns t c =
-    let env = declared_of c.args.unit.now in
+    let env = declared_in c.args.file.now in
     let around = in_loop (around_view c.args.around) in
     let ls = locals_of c.args.locals.now in
     let a = stmt_tree c.args.a.now in
@@ -90,7 +90,7 @@ typed_while-returns t c =
 
 pub typed_do-returns : goal.typed_do-returns
 typed_do-returns t c =
-    let env = declared_of c.args.unit.now in
+    let env = declared_in c.args.file.now in
     let around = in_loop (around_view c.args.around) in
     let ls = locals_of c.args.locals.now in
     let now = locals_of c.typed_inner.new.locals in
@@ -104,7 +104,7 @@ typed_do-returns t c =
 
 pub typed_switch-returns : goal.typed_switch-returns
 typed_switch-returns t c =
-    let env = declared_of c.args.unit.now in
+    let env = declared_in c.args.file.now in
     let around = in_switch (around_view c.args.around) in
     let ls = locals_of c.args.locals.now in
     let gs = group_trees c.args.groups.now in
@@ -122,7 +122,7 @@ typed_switch-returns t c =
 
 pub typed_groups-loop-g-preserved : goal.typed_groups-loop-g-preserved
 typed_groups-loop-g-preserved t c =
-    let env = declared_of c.args.unit.now in
+    let env = declared_in c.args.file.now in
     let around = around_view c.args.around in
     let x = c.g-item.result in
     let a : Group = roll-Group (record { labels = c.in_ok-labels.labels; body = c.in-Ok.body }) in
@@ -140,7 +140,7 @@ typed_groups-loop-g-preserved t c =
 
 pub typed_stmt-returns-in_ok-head-in-For : goal.typed_stmt-returns-in_ok-head-in-For
 typed_stmt-returns-in_ok-head-in-For t c =
-    let env = declared_of c.args.unit.now in
+    let env = declared_in c.args.file.now in
     let around = around_view c.args.around in
     let ls = locals_of c.args.locals.now in
     let s = c.args.s.now.span in
@@ -162,7 +162,7 @@ typed_stmt-returns-in_ok-head-in-For t c =
 
 pub typed_stmt-returns-in_err-head-in-For : goal.typed_stmt-returns-in_err-head-in-For
 typed_stmt-returns-in_err-head-in-For t c =
-    let env = declared_of c.args.unit.now in
+    let env = declared_in c.args.file.now in
     let around = around_view c.args.around in
     let ls = locals_of c.args.locals.now in
     let s = c.args.s.now.span in
@@ -181,7 +181,7 @@ typed_stmt-returns-in_err-head-in-For t c =
 
 pub typed_groups-returns-in-Err : goal.typed_groups-returns-in-Err
 typed_groups-returns-in-Err t c =
-    let env = declared_of c.args.unit.now in
+    let env = declared_in c.args.file.now in
     let around = around_view c.args.around in
     let x = c.g-item.result in
     let out = group_out x in
